@@ -11,7 +11,8 @@ use Rattle.zint.specs.Bound.{mul-32}
 use Rattle.zint.specs.Read.{Reads, wide-32, r-lit, r-as, r-mul, r-call2, f-mul}
 use Rattle.zint.specs.Wrap.{wrap, modZ}
 use Rattle.zint.specs.WrapLaws.{wrap-add-l}
-use Rattle.silk_sigproc.specs.Dot.{dot, dot-next}
+use Rattle.silk_sigproc.specs.Dot.{dot}
+use Rattle.silk_sigproc.specs.DotLaws.{dot-next}
 use Rattle.zint.specs.Rules.{zneeds}
 use Rattle.silk_sigproc.proofs.silk_inner_prod_aligned.Statement.{statement}
 use Rattle.silk_sigproc.proofs.silk_inner_prod_aligned.Tie as tie
