@@ -1,5 +1,8 @@
 -- The ranges of the macros' results.
 -- Assumes nothing.
+use mathlib.Core.Path.{_≡_, refl, sym}
+use borrow.Author.Tests.{lt-leb}
+use Rattle.zint.specs.Tests.{sel-no}
 use Prim.Native.Nat.{ℕ, _-_, _^_, _<_}
 use native.Mathlib.Omega.{arith}
 use lib.Count.{leadingZeros, leading-le}
@@ -13,7 +16,7 @@ use Rattle.zint.specs.WrapLaws.{wrap-fits, modZ-lt}
 use Rattle.zint.specs.Diff.{v, n, _⊕_, _⊖_, sfits-by, of-mag-up, of-mag-dn}
 use Rattle.zint.specs.Shift.{shr-lt}
 use Rattle.zint.specs.Bound.{fits-abs, abs-prod, shr-abs-fits, mul-32}
-use Rattle.silk_macros.specs.Macros.{smulwb, smulbb, smmul, rshift-round}
+use Rattle.silk_macros.specs.Macros.{smulwb, smulbb, smmul, rshift-round, round-shift}
 
 pub smulwb-fits : {a : ℤ} (b : ℤ) → SFits w32 a → SFits w32 (smulwb a b)
 unfolding smulwb
@@ -35,6 +38,11 @@ round-fits {a} s h f =
     sfits-by w32 (v q ⊕ n (modZ (shrZ a (2 ^ (s - 1))) 2))
     (omega (arith, of-mag-up q (2 ^ 30) l, modZ-lt (shrZ a (2 ^ (s - 1))) 2 (lit< tt)))
     (omega (arith, of-mag-dn q (2 ^ 30) l))
+
+-- `silk_rshift_round` where it rounds
+pub round-shift-is : (a : ℤ) (s : ℕ) → 0 < s → s < 31 → round-shift a (pos s) ≡ rshift-round a s
+round-shift-is a s p q =
+    sym (sel-no _ _ _ (rshift-round a s) (lt-leb s 0 p) (sel-no _ _ _ _ (lt-leb 31 s q) refl))
 
 pub less-fits : (x : ℕ) → SFits w32 (pos (leadingZeros 32 x) -ℤ pos 1)
 less-fits x = sfits-by w32 (n (leadingZeros 32 x) ⊖ n 1) (omega (arith, leading-le 32 x)) (omega (arith, leading-le 32 x))

@@ -2,7 +2,7 @@
 -- Definitions only; their ranges are in `MacroLaws`.
 use Prim.Native.Nat.{ℕ, _-_, _^_}
 use lib.IntN.{ℤ, pos, negsuc, natAbs, _+ℤ_, _-ℤ_, _*ℤ_}
-use lib.Signed.{shrZ, ltZ}
+use lib.Signed.{shrZ, ltZ, leZ}
 use lib.Count.{leadingZeros}
 use mir.Syntax.{w16, w32, w64}
 use mir.Val.{sel}
@@ -25,6 +25,12 @@ smmul a b = shrZ (a *ℤ b) 4294967296
 -- z over 2^s, rounded to the nearest, halves up
 unfoldable pub rshift-round : ℤ → ℕ → ℤ
 rshift-round z s = shrZ z (2 ^ s) +ℤ pos (modZ (shrZ z (2 ^ (s - 1))) 2)
+
+-- `silk_rshift_round`, for every shift of 32 bits: to the left where s is 0 or less, by the low five bits of -s, as the release build shifts; 0 from 31 up; else rounded.
+-- It computes at a literal shift: `round-shift z (pos 11)` is `rshift-round z 11`.
+abbrev pub round-shift : ℤ → ℤ → ℤ
+round-shift z s =
+    sel (leZ s (pos 0)) (wrap w32 (z *ℤ pos (2 ^ modZ (pos 0 -ℤ s) 32))) (sel (leZ (pos 31) s) (pos 0) (rshift-round z (natAbs s)))
 
 -- a times 2^s, at 64 bits, held to 32
 unfoldable pub lshift-sat32 : ℤ → ℕ → ℤ

@@ -1,7 +1,8 @@
 // The fixed-point macros of SILK.
 ghost use mathlib.Core.Path.{_≡_};
-ghost use lib.IntN.{pos, negsuc, natAbs, _+ℤ_};
-ghost use Rattle.silk_macros.specs.Macros.{smulwb, smlawb, smulbb, smmul, rshift-round, lshift-sat32, headroom, normal};
+ghost use lib.IntN.{pos, negsuc, natAbs, _+ℤ_, _-ℤ_};
+ghost use Rattle.zint.specs.Wrap.{modZ};
+ghost use Rattle.silk_macros.specs.Macros.{smulwb, smlawb, smulbb, smmul, round-shift, lshift-sat32, headroom, normal};
 ghost use Rattle.zint.specs.Clamp.{clamp, sat};
 ghost use Rattle.silk_macros.specs.Divide.{refine, place, div32-varq, quotient};
 ghost use lib.Signed.{_<ℤ_, _≤ℤ_, quotZ};
@@ -96,10 +97,22 @@ pub fn silk_limit_32(a: i32, low: i32, high: i32) -> i32
     }
 }
 
-pub fn silk_rshift_round(a: i32, shift: i32) -> i32
-    requires { ⌜ (pos 0 <ℤ shift) × (shift <ℤ pos 31) ⌝ }
-    ensures { λ r. ⌜ r ≡ rshift-round a (natAbs shift) ⌝ }
+// The low five bits of -shift: how far a left shift by -shift goes.
+fn negated_amount(shift: i32) -> u32
+    ensures { λ r. ⌜ r ≡ modZ (pos 0 -ℤ shift) 32 ⌝ }
 {
+    ((0 - shift as i64) & 31) as u32
+}
+
+pub fn silk_rshift_round(a: i32, shift: i32) -> i32
+    ensures { λ r. ⌜ r ≡ round-shift a shift ⌝ }
+{
+    if shift <= 0 {
+        return a << negated_amount(shift);
+    }
+    if shift >= 31 {
+        return 0;
+    }
     (a >> shift) + ((a >> (shift - 1)) & 1)
 }
 
