@@ -1,7 +1,7 @@
 -- The tables' rule, tested once over each table, and what it says of a subframe and a contour.
 -- Assumes nothing.
 use mathlib.Core.Path.{_≡_, refl, sym, ap, _∙_}
-use mathlib.Core.Bool.{Bool, true, false, _&&_, cond, false≢true}
+use mathlib.Core.Bool.{Bool, true, false, _&&_, cond}
 use mathlib.Core.List.{[], _∷_}
 use mathlib.Core.Logic.{_⊎_, ⊎-elim}
 use Prim.Native.Nat.{ℕ, zero, suc, _+_, _-_, _<_, _≤_}
@@ -18,6 +18,7 @@ use Rattle.zint.specs.Tests.{le-true}
 use Rattle.zint.specs.Shift.{nonneg-abs}
 use Rattle.zint.specs.Diff.{v, n as num, _⊕_, _⊖_, le-of, le-by, sfits-by, le-in, eq-in, zarith}
 use Rattle.best.specs.Best.{every}
+use Rattle.silk_tables.specs.TestLaws.{and-left, and-right}
 use Rattle.silk_tables.specs.Tables.{Settings, cb-lags-stage3, cb-lags-stage3-10-ms, lag-range-stage3, lag-range-stage3-10-ms, in-use, offset, range, low, high, total, first-lag, place, moved-lag, offset-in-range, range-small, rule}
 
 -- ---- the test over each table
@@ -91,14 +92,6 @@ in-use-bounds {nb} {cx} s =
     (s .subframes)
 
 -- ---- the rule at a subframe and a contour
-
-and-left : (a b : Bool) → (a && b) ≡ true → a ≡ true
-and-left true b e = refl
-and-left false b e = e
-
-and-right : (a b : Bool) → (a && b) ≡ true → b ≡ true
-and-right true b e = e
-and-right false b e = absurd (false≢true e)
 
 every-at : (n : ℕ) (t : ℕ → Bool) → every n t ≡ true → (q : ℕ) → q < n → t q ≡ true
 unfolding every

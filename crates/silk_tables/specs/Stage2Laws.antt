@@ -1,0 +1,121 @@
+-- The bounds of stage 2's offsets, tested once over each table, and the tables and counts that the settings choose.
+-- Assumes nothing.
+use mathlib.Core.Path.{_≡_, refl, sym, ap, _∙_}
+use mathlib.Core.Bool.{Bool, true, false, _&&_, cond, and-false}
+use mathlib.Core.List.{List, [], _∷_}
+use mathlib.Core.Logic.{_⊎_, ⊎-elim}
+use Prim.Native.Nat.{ℕ, zero, suc, _+_, _≤_}
+use native.Mathlib.Omega.{arith}
+use lib.Dec.{eqb, ltb, lit≤}
+use borrow.Author.Tests.{ne-eqb}
+use lib.IntN.{ℤ, pos, negsuc, _+ℤ_}
+use mir.Syntax.{w32}
+use mir.Val.{SFits}
+use lib.ListN.{getD}
+use lib.Signed.{leZ, _≤ℤ_}
+use Rattle.zint.specs.Tests.{le-true}
+use Rattle.zint.specs.Shift.{nonneg-abs}
+use Rattle.zint.specs.Diff.{v, n as num, _⊕_, le-by, sfits-by, eq-in, zarith}
+use Rattle.silk_tables.specs.TestLaws.{and-left, and-right}
+use Rattle.silk_tables.specs.Tables.{cb-lags-stage2, cb-lags-stage2-10-ms, entries2, contours2, offset2, offset2-small, all-of, moved-lag2}
+
+-- ---- the tables and counts that the settings choose
+
+pub two-or : {nb : ℕ} → (nb ≡ 2) ⊎ (nb ≡ 4) → (nb ≡ 4 → ⊥) → nb ≡ 2
+two-or s g = ⊎-elim (λ e. e) (λ e. absurd (g e)) s
+
+pub offset2-4 : (nb k j : ℕ) → nb ≡ 4 → offset2 nb k j ≡ getD (getD cb-lags-stage2 k []) j (pos 0)
+unfolding offset2
+offset2-4 nb k j e = ap (λ (m : ℕ). offset2 m k j) e
+
+pub offset2-other : (nb k j : ℕ) → (nb ≡ 4 → ⊥) → offset2 nb k j ≡ getD (getD cb-lags-stage2-10-ms k []) j (pos 0)
+unfolding offset2
+offset2-other nb k j g = ap (λ (t : Bool). getD (getD (cond t cb-lags-stage2 cb-lags-stage2-10-ms) k []) j (pos 0)) (ne-eqb nb 4 g)
+
+pub entries2-4 : (nb : ℕ) → nb ≡ 4 → entries2 nb ≡ 11
+unfolding entries2
+entries2-4 nb e = ap entries2 e
+
+pub entries2-other : (nb : ℕ) → (nb ≡ 4 → ⊥) → entries2 nb ≡ 3
+unfolding entries2
+entries2-other nb g = ap (λ (t : Bool). cond t 11 3) (ne-eqb nb 4 g)
+
+-- the count by the three tests
+pub contours2-by : (fs nb cx : ℕ) {a b c : Bool} → eqb fs 8 ≡ a → eqb nb 4 ≡ b → ltb 0 cx ≡ c → contours2 fs nb cx ≡ cond (a && (b && c)) 11 3
+unfolding contours2
+contours2-by fs nb cx p q r = λ i. cond (p i && (q i && r i)) 11 3
+
+pub contours2-other : (fs nb cx : ℕ) → (nb ≡ 4 → ⊥) → contours2 fs nb cx ≡ 3
+contours2-other fs nb cx g = contours2-by fs nb cx refl (ne-eqb nb 4 g) refl ∙ ap (λ (t : Bool). cond t 11 3) (and-false (eqb fs 8))
+
+by-tests : (a b c : Bool) → cond (a && (b && c)) 11 3 ≤ cond b 11 3
+by-tests true true true = lit≤ tt
+by-tests true true false = lit≤ tt
+by-tests true false c = lit≤ tt
+by-tests false true c = lit≤ tt
+by-tests false false c = lit≤ tt
+
+-- every contour that is tried is in the table
+pub contours2-le : (fs nb cx : ℕ) → contours2 fs nb cx ≤ entries2 nb
+unfolding contours2 entries2
+contours2-le fs nb cx = by-tests (eqb fs 8) (eqb nb 4) (ltb 0 cx)
+
+few : (t : Bool) → (3 ≤ cond t 11 3) × (cond t 11 3 ≤ 11)
+few true = (lit≤ tt, lit≤ tt)
+few false = (lit≤ tt, lit≤ tt)
+
+pub contours2-bounds : (fs nb cx : ℕ) → (3 ≤ contours2 fs nb cx) × (contours2 fs nb cx ≤ 11)
+unfolding contours2
+contours2-bounds fs nb cx = few (eqb fs 8 && (eqb nb 4 && ltb 0 cx))
+
+-- ---- the test over each table, and what it says of a subframe and a contour
+
+small-20-ms : all-of (all-of offset2-small) cb-lags-stage2 ≡ true
+unfolding all-of offset2-small cb-lags-stage2
+small-20-ms = refl
+
+small-10-ms : all-of (all-of offset2-small) cb-lags-stage2-10-ms ≡ true
+unfolding all-of offset2-small cb-lags-stage2-10-ms
+small-10-ms = refl
+
+small-of : (t : Bool) → all-of (all-of offset2-small) (cond t cb-lags-stage2 cb-lags-stage2-10-ms) ≡ true
+small-of true = small-20-ms
+small-of false = small-10-ms
+
+-- an entry of a list that passes, and what is read past its end
+all-at : {A : Type 0} (test : A → Bool) (xs : List A) (i : ℕ) (d : A) → all-of test xs ≡ true → test d ≡ true → test (getD xs i d) ≡ true
+unfolding all-of
+all-at test [] i d e f = f
+all-at test (x ∷ xs) zero d e f = and-left (test x) (all-of test xs) e
+all-at test (x ∷ xs) (suc i) d e f = all-at test xs i d (and-right (test x) (all-of test xs) e) f
+
+small : (nb k j : ℕ) → offset2-small (offset2 nb k j) ≡ true
+unfolding offset2 offset2-small all-of
+small nb k j = all-at offset2-small (getD (cond (eqb nb 4) cb-lags-stage2 cb-lags-stage2-10-ms) k []) j (pos 0) (all-at (all-of offset2-small) (cond (eqb nb 4) cb-lags-stage2 cb-lags-stage2-10-ms) k [] (small-of (eqb nb 4)) refl) refl
+
+pub offset2-ge : (nb k j : ℕ) → negsuc 0 ≤ℤ offset2 nb k j
+unfolding offset2-small
+offset2-ge nb k j = le-true (negsuc 0) (offset2 nb k j) (and-left (leZ (negsuc 0) (offset2 nb k j)) (leZ (offset2 nb k j) (pos 2)) (small nb k j))
+
+pub offset2-le : (nb k j : ℕ) → offset2 nb k j ≤ℤ pos 2
+unfolding offset2-small
+offset2-le nb k j = le-true (offset2 nb k j) (pos 2) (and-right (leZ (negsuc 0) (offset2 nb k j)) (leZ (offset2 nb k j) (pos 2)) (small nb k j))
+
+-- ---- a lag moved by an offset
+
+pub moved2-is : (nb k d j : ℕ) → 1 ≤ d → pos (moved-lag2 nb k d j) ≡ pos d +ℤ offset2 nb k j
+unfolding moved-lag2
+moved2-is nb k d j h = sym (nonneg-abs (pos d +ℤ offset2 nb k j) (let p = offset2-ge nb k j in le-by (num 0) (num d ⊕ v (offset2 nb k j)) (omega zarith)))
+
+pub moved2-bounds : (nb k d j : ℕ) → 1 ≤ d → (d ≤ moved-lag2 nb k d j + 1) × (moved-lag2 nb k d j ≤ d + 2)
+moved2-bounds nb k d j h =
+    let e = eq-in (num (moved-lag2 nb k d j)) (num d ⊕ v (offset2 nb k j)) (moved2-is nb k d j h) in
+    let p = offset2-ge nb k j in
+    let q = offset2-le nb k j in
+    (omega zarith, omega zarith)
+
+pub moved2-fits : (nb k d j : ℕ) → d ≤ 288 → SFits w32 (pos d +ℤ offset2 nb k j)
+moved2-fits nb k d j h =
+    let p = offset2-ge nb k j in
+    let q = offset2-le nb k j in
+    sfits-by w32 (num d ⊕ v (offset2 nb k j)) (omega zarith) (omega zarith)
