@@ -1,0 +1,92 @@
+-- `cases_io::load_i16s` meets its contract. The invariant: out is filled below i, and as it was from there on. Assumes nothing.
+use mathlib.Core.Path.{_≡_, ap, _∙_}
+use Prim.Native.Nat.{ℕ, _+_, _*_, _≤_, _-_}
+use native.Mathlib.Omega.{arith}
+use lib.IntN.{ℤ}
+use lib.ListN.{length, length-set}
+use mir.Syntax.{w16}
+use Rattle.zint.specs.Read.{r-got}
+use Rattle.zint.specs.Rules.{zneeds}
+use Rattle.lists.specs.Fill.{filled, filled-none, filled-turn}
+use Rattle.cases_io.specs.Little.{i16-at}
+use Rattle.cases_io.specs.LittleLaws.{i16-past, held}
+use Rattle.cases_io.proofs.load_i16s.Statement.{statement}
+use Rattle.cases_io.proofs.load_i16s.Tie as tie
+
+abbrev Inv-loop : tie.InvT-loop
+Inv-loop bytes at out₀ from i₀ i-end out i =
+    (i ≤ length out₀) × ((length out ≡ length out₀) × (out ≡ filled (λ (k : ℕ). i16-at bytes (at + 2 * k)) i out₀))
+
+abbrev μ-loop : tie.MeasureT-loop
+μ-loop bytes at out₀ from i₀ i-end out i = length out₀ - i
+
+skip-requires : tie.Need-skip-requires Inv-loop μ-loop
+skip-requires c κs = search zneeds
+
+loop-holds : tie.Need-loop-holds Inv-loop μ-loop
+loop-holds c = (search zneeds, (search zneeds, filled-none _ _))
+
+mul-i16-at : tie.Need-mul-i16-at Inv-loop μ-loop
+mul-i16-at c = search zneeds
+
+add-i16-at : tie.Need-add-i16-at Inv-loop μ-loop
+add-i16-at c = search zneeds
+
+i16-at-requires : tie.Need-i16-at-requires Inv-loop μ-loop
+i16-at-requires c κs = search zneeds
+
+mul-t11 : tie.Need-mul-t11 Inv-loop μ-loop
+mul-t11 c = search zneeds
+
+slice-set-from-out : tie.Need-slice-set-from-out Inv-loop μ-loop
+slice-set-from-out c = search zneeds
+
+add-i : tie.Need-add-i Inv-loop μ-loop
+add-i c = search zneeds
+
+loop-less : tie.Need-loop-less Inv-loop μ-loop
+loop-less c = search zneeds
+
+loop-again : tie.Need-loop-again Inv-loop μ-loop
+loop-again c =
+    let s = c .before .before in
+    let k = s .before .skip in
+    let a = s .before .before .before .args in
+    let F : ℕ → ℤ = i16-at (a .bytes .now) in
+    let h = held F (length (a .bytes .now)) (i16-past (a .bytes .now)) (k .result) (a .at) (2 * s .loop .i) (k .ensures) in
+    let v = r-got w16 (c .i16-at .ok) (c .i16-at .ensures ∙ h) .val in (
+      omega arith,
+      (
+        simp length-set (s .loop .inv .1 .0),
+        filled-turn (λ (j : ℕ). F (a .at + 2 * j)) (s .loop .i) (a .out .now) (s .loop .inv .1 .1) v (omega arith),
+      ),
+    )
+
+same-length : tie.Need-same-length Inv-loop μ-loop
+same-length c = search zneeds
+
+returns : tie.Need-returns Inv-loop μ-loop
+returns c =
+    let s = c .before in
+    let a = s .before .before .before .args in
+    let e : s .loop .i ≡ length (a .out .now) = omega arith in
+    s .loop .inv .1 .1 ∙ ap (λ (n : ℕ). filled (λ (j : ℕ). i16-at (a .bytes .now) (a .at + 2 * j)) n (a .out .now)) e
+
+pub load-i16s-spec : {M : Type 1} → statement M
+load-i16s-spec =
+    tie.close
+    (tie.spec
+    Inv-loop
+    μ-loop
+    skip-requires
+    loop-holds
+    mul-i16-at
+    add-i16-at
+    i16-at-requires
+    mul-t11
+    slice-set-from-out
+    add-i
+    loop-less
+    loop-again
+    same-length
+    returns)

@@ -1,0 +1,92 @@
+-- `cases_io::load_i32s` meets its contract. The invariant: out is filled below i, and as it was from there on. Assumes nothing.
+use mathlib.Core.Path.{_≡_, ap, _∙_}
+use Prim.Native.Nat.{ℕ, _+_, _*_, _≤_, _-_}
+use native.Mathlib.Omega.{arith}
+use lib.IntN.{ℤ}
+use lib.ListN.{length, length-set}
+use mir.Syntax.{w32}
+use Rattle.zint.specs.Read.{r-got}
+use Rattle.zint.specs.Rules.{zneeds}
+use Rattle.lists.specs.Fill.{filled, filled-none, filled-turn}
+use Rattle.cases_io.specs.Little.{i32-at}
+use Rattle.cases_io.specs.LittleLaws.{i32-past, held}
+use Rattle.cases_io.proofs.load_i32s.Statement.{statement}
+use Rattle.cases_io.proofs.load_i32s.Tie as tie
+
+abbrev Inv-loop : tie.InvT-loop
+Inv-loop bytes at out₀ from i₀ i-end out i =
+    (i ≤ length out₀) × ((length out ≡ length out₀) × (out ≡ filled (λ (k : ℕ). i32-at bytes (at + 4 * k)) i out₀))
+
+abbrev μ-loop : tie.MeasureT-loop
+μ-loop bytes at out₀ from i₀ i-end out i = length out₀ - i
+
+skip-requires : tie.Need-skip-requires Inv-loop μ-loop
+skip-requires c κs = search zneeds
+
+loop-holds : tie.Need-loop-holds Inv-loop μ-loop
+loop-holds c = (search zneeds, (search zneeds, filled-none _ _))
+
+mul-i32-at : tie.Need-mul-i32-at Inv-loop μ-loop
+mul-i32-at c = search zneeds
+
+add-i32-at : tie.Need-add-i32-at Inv-loop μ-loop
+add-i32-at c = search zneeds
+
+i32-at-requires : tie.Need-i32-at-requires Inv-loop μ-loop
+i32-at-requires c κs = search zneeds
+
+mul-t11 : tie.Need-mul-t11 Inv-loop μ-loop
+mul-t11 c = search zneeds
+
+slice-set-from-out : tie.Need-slice-set-from-out Inv-loop μ-loop
+slice-set-from-out c = search zneeds
+
+add-i : tie.Need-add-i Inv-loop μ-loop
+add-i c = search zneeds
+
+loop-less : tie.Need-loop-less Inv-loop μ-loop
+loop-less c = search zneeds
+
+loop-again : tie.Need-loop-again Inv-loop μ-loop
+loop-again c =
+    let s = c .before .before in
+    let k = s .before .skip in
+    let a = s .before .before .before .args in
+    let F : ℕ → ℤ = i32-at (a .bytes .now) in
+    let h = held F (length (a .bytes .now)) (i32-past (a .bytes .now)) (k .result) (a .at) (4 * s .loop .i) (k .ensures) in
+    let v = r-got w32 (c .i32-at .ok) (c .i32-at .ensures ∙ h) .val in (
+      omega arith,
+      (
+        simp length-set (s .loop .inv .1 .0),
+        filled-turn (λ (j : ℕ). F (a .at + 4 * j)) (s .loop .i) (a .out .now) (s .loop .inv .1 .1) v (omega arith),
+      ),
+    )
+
+same-length : tie.Need-same-length Inv-loop μ-loop
+same-length c = search zneeds
+
+returns : tie.Need-returns Inv-loop μ-loop
+returns c =
+    let s = c .before in
+    let a = s .before .before .before .args in
+    let e : s .loop .i ≡ length (a .out .now) = omega arith in
+    s .loop .inv .1 .1 ∙ ap (λ (n : ℕ). filled (λ (j : ℕ). i32-at (a .bytes .now) (a .at + 4 * j)) n (a .out .now)) e
+
+pub load-i32s-spec : {M : Type 1} → statement M
+load-i32s-spec =
+    tie.close
+    (tie.spec
+    Inv-loop
+    μ-loop
+    skip-requires
+    loop-holds
+    mul-i32-at
+    add-i32-at
+    i32-at-requires
+    mul-t11
+    slice-set-from-out
+    add-i
+    loop-less
+    loop-again
+    same-length
+    returns)
