@@ -1,0 +1,73 @@
+-- `stage2_correlations::divide` meets its contract. Assumes nothing.
+use mathlib.Core.Path.{_≡_, sym, ap, ap₂, _∙_}
+use mathlib.Core.Bool.{true, false}
+use lib.IntN.{ℤ, pos}
+use lib.Signed.{ltZ}
+use Rattle.zint.specs.Read.{Reads, r-var, r-got, r-cast, f-cast, t-above}
+use Rattle.zint.specs.Wrap.{wrap}
+use Rattle.zint.specs.WrapLaws.{wrap-fits}
+use mir.Syntax.{w16, w32}
+use mir.Val.{toZ, ofZ}
+use Rattle.silk_macros.specs.Divide.{quotient}
+use Rattle.stage2_correlations.specs.RowLaws.{ratio-none, ratio-value, ratio-zero}
+use Rattle.zint.specs.Rules.{zneeds}
+use Rattle.stage2_correlations.proofs.divide.Statement.{statement}
+use Rattle.stage2_correlations.proofs.divide.Tie as tie
+
+silk-div32-varq-requires : tie.Need-silk-div32-varq-requires
+silk-div32-varq-requires c κs = search zneeds
+
+enum-known-q : tie.Need-enum-known-q
+enum-known-q c = search zneeds
+
+enum-told : tie.Need-enum-told
+enum-told c = search zneeds
+
+-- what was divided, and the test
+positive : (c : tie.Then1) → ltZ (pos 0) (c .before .args .cross-corr) ≡ true
+positive c = t-above (pos 0) (r-var (c .before .fits .cross-corr)) (c .if1 .taken)
+
+divided : (c : tie.After-silk-div32-varq) → c .silk-div32-varq .result ≡ quotient (c .before .before .args .cross-corr) (c .before .before .args .norm) (pos 14)
+divided c =
+    let f = c .before .before .fits in
+    c .silk-div32-varq .ensures ∙ ap₂ (λ (x y : ℤ). quotient x y (pos 14)) (r-var (f .cross-corr) .val) (r-var (f .norm) .val)
+
+returns : tie.Need-returns
+returns c = ratio-zero _ _ (positive (c .before .before .before)) (sym (divided (c .before .before)) ∙ c .enum-told .given .1)
+
+abbrev value : tie.After-q → ℤ
+value c = c .q .given .0 .0
+
+same : (c : tie.After-known-told) → toZ w32 (ofZ w32 (value (c .before))) ≡ value (c .before)
+same c = search zneeds
+
+low : (c : tie.After-low16) → Reads w32 (ofZ w32 (c .low16 .result)) (wrap w16 (value (c .before .before)))
+low c = r-got w32 (c .low16 .ok) (c .low16 .ensures ∙ ap (wrap w16) (same (c .before)))
+
+low16-requires : tie.Need-low16-requires
+low16-requires c κs = search zneeds
+
+cast-t8 : tie.Need-cast-t8
+cast-t8 c = f-cast (low c) (wrap-fits w16 (value (c .before .before)))
+
+returns-2 : tie.Need-returns-2
+returns-2 c =
+    let d = c .before .before in
+    ap (λ (x : ℤ). record { zero = false; value = x }) (r-cast (low c) (wrap-fits w16 (value d)) .val)
+    ∙ ratio-value _ _ (value d) (positive (d .before .before .before)) (sym (divided (d .before .before)) ∙ d .q .given .1)
+
+returns-3 : tie.Need-returns-3
+returns-3 c = ratio-none _ _ (t-above (pos 0) (r-var (c .before .fits .cross-corr)) (c .if1 .left))
+
+pub divide-spec : {M : Type 1} → statement M
+divide-spec =
+    tie.close
+    (tie.spec
+    silk-div32-varq-requires
+    enum-known-q
+    enum-told
+    returns
+    low16-requires
+    cast-t8
+    returns-2
+    returns-3)

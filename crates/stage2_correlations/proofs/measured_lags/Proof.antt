@@ -1,0 +1,64 @@
+-- `stage2_correlations::measured_lags` meets its contract. Assumes nothing.
+use mathlib.Core.Path.{_≡_, refl, ap, _∙_}
+use mathlib.Core.Bool.{false}
+use Prim.Native.Nat.{ℕ, _+_, _-_, _≤_}
+use lib.ListN.{replicate}
+use native.Mathlib.Omega.{arith}
+use Rattle.lists.specs.Fill.{filled, filled-none, filled-turn}
+use Rattle.stage2_correlations.specs.Marks.{measured}
+use Rattle.stage2_correlations.specs.RowLaws.{filled-all}
+use Rattle.zint.specs.Rules.{zneeds}
+use Rattle.stage2_correlations.proofs.measured_lags.Statement.{statement}
+use Rattle.stage2_correlations.proofs.measured_lags.Tie as tie
+
+abbrev Inv-loop : tie.InvT-loop
+Inv-loop kept marks₀ i₀ marks i = (i ≤ 132) × (marks ≡ filled (λ (q : ℕ). measured kept (14 + q)) i (replicate 132 false))
+
+abbrev μ-loop : tie.MeasureT-loop
+μ-loop kept marks₀ i₀ marks i = 132 - i
+
+loop-holds : tie.Need-loop-holds Inv-loop μ-loop
+loop-holds c = (omega arith, filled-none _ _)
+
+add-is-measured : tie.Need-add-is-measured Inv-loop μ-loop
+add-is-measured c = search zneeds
+
+is-measured-requires : tie.Need-is-measured-requires Inv-loop μ-loop
+is-measured-requires c κs = search zneeds
+
+array-write-marks : tie.Need-array-write-marks Inv-loop μ-loop
+array-write-marks c = search zneeds
+
+add-i : tie.Need-add-i Inv-loop μ-loop
+add-i c = search zneeds
+
+loop-less : tie.Need-loop-less Inv-loop μ-loop
+loop-less c = search zneeds
+
+loop-again : tie.Need-loop-again Inv-loop μ-loop
+loop-again c =
+    let s = c .before .before in
+    let a = s .before .before .args in
+    (omega arith, filled-turn (λ (q : ℕ). measured (a .kept .now) (14 + q)) (s .loop .i) (replicate 132 false) (s .loop .inv .1) (c .is-measured .ensures) (omega arith))
+
+returns : tie.Need-returns Inv-loop μ-loop
+returns c =
+    let s = c .before in
+    let a = s .before .before .args in
+    let e : s .loop .i ≡ 132 = omega arith in
+    s .loop .inv .1 ∙ ap (λ (n : ℕ). filled (λ (q : ℕ). measured (a .kept .now) (14 + q)) n (replicate 132 false)) e ∙ filled-all (λ (q : ℕ). measured (a .kept .now) (14 + q)) 132 (replicate 132 false) refl
+
+pub measured-lags-spec : {M : Type 1} → statement M
+measured-lags-spec =
+    tie.close
+    (tie.spec
+    Inv-loop
+    μ-loop
+    loop-holds
+    add-is-measured
+    is-measured-requires
+    array-write-marks
+    add-i
+    loop-less
+    loop-again
+    returns)

@@ -1,0 +1,47 @@
+-- Stage 2's correlations, of the 8 kHz signal e, by subframe k and lag d. The sums are exact and wrapped once. Definitions only; the laws are in `CorrelationLaws`.
+use mathlib.Core.Bool.{Bool, _&&_, cond}
+use mathlib.Core.List.{List}
+use Prim.Native.Nat.{ℕ, _+_, _-_, _*_}
+use lib.IntN.{ℤ, pos, _+ℤ_}
+use lib.ListN.{drop}
+use lib.Signed.{ltZ}
+use mir.Syntax.{w16, w32}
+use Rattle.zint.specs.Equal.{eqZ}
+use Rattle.zint.specs.Wrap.{wrap}
+use Rattle.silk_macros.specs.Divide.{quotient}
+use Rattle.silk_macros.specs.declared.Quotient.{Quotient}
+use Rattle.silk_macros.specs.declared.Quotient.the-variants.{Value, ZeroDivisor}
+use Rattle.silk_sigproc.specs.Dot.{dot}
+use Rattle.stage2_correlations.specs.Marks.{measured}
+
+-- where subframe k starts: 20 ms of history, then subframes of 5 ms
+unfoldable pub target : ℕ → ℕ
+target k = 160 + 40 * k
+
+-- the cross-correlation of the subframe's 40 samples and those d earlier
+unfoldable pub cross : List ℤ → ℕ → ℕ → ℤ
+cross e k d = wrap w32 (dot (drop (target k) e) (drop (target k - d) e) 40)
+
+-- the divisor: the energies of the two, and 1
+unfoldable pub divisor : List ℤ → ℕ → ℕ → ℤ
+divisor e k d = wrap w32 (dot (drop (target k) e) (drop (target k) e) 40 +ℤ pos 1 +ℤ dot (drop (target k - d) e) (drop (target k - d) e) 40)
+
+-- the low 16 bits of a quotient
+abbrev pub low16-of : Quotient → ℤ
+low16-of (Value q) = wrap w16 q
+low16-of ZeroDivisor = pos 0
+
+-- the quotient at Q14 of two numbers, low 16 bits, where the first is positive; else 0. The divisor is reached only there
+unfoldable pub ratio : ℤ → ℤ → ℤ
+ratio x n = cond (ltZ (pos 0) x) (low16-of (quotient x n (pos 14))) (pos 0)
+
+unfoldable pub by-zero : ℤ → ℤ → Bool
+by-zero x n = ltZ (pos 0) x && eqZ n (pos 0)
+
+-- "Unmeasured correlations are 0."
+unfoldable pub correlation : List ℤ → List ℕ → ℕ → ℕ → ℤ
+correlation e kept k d = cond (measured kept d) (ratio (cross e k d) (divisor e k d)) (pos 0)
+
+-- the divisor of the subframe k and the lag d is reached, and it is zero
+unfoldable pub zero-reached : List ℤ → List ℕ → ℕ → ℕ → Bool
+zero-reached e kept k d = measured kept d && by-zero (cross e k d) (divisor e k d)

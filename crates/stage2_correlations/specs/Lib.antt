@@ -1,0 +1,7 @@
+-- What stage 2 measures. Definitions: `Marks`, `Correlations`; the rest are what proofs need.
+pub mod Marks
+pub mod MarkLaws
+pub mod MarkFacts
+pub mod Correlations
+pub mod Rows
+pub mod RowLaws

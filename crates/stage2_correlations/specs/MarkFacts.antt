@@ -1,0 +1,120 @@
+-- Document 01's examples of marks, and that at most 24 lags are listed.
+-- Assumes nothing.
+use mathlib.Core.Path.{_≡_, refl, ap, ap₂, _∙_}
+use mathlib.Core.Bool.{Bool, true, false, _&&_, _||_, cond, false≢true}
+use mathlib.Core.List.{List, [], _∷_, _++_}
+use Prim.Native.Nat.{ℕ, zero, suc, _+_, _-_, _*_, _≤_, min}
+use native.Mathlib.Omega.{arith}
+use borrow.Author.Tests.{leb-true}
+use lib.Dec.{leb}
+use lib.ListN.{length, getD, length-append}
+use Rattle.best.specs.Best.{some}
+use Rattle.stage2_correlations.specs.Marks.{mark-near, near, listed, measured, Kept}
+
+-- the numbers below n that pass the test, rising
+unfoldable pub passing : ℕ → (ℕ → Bool) → List ℕ
+passing zero t = []
+passing (suc n) t = passing n t ++ cond (t n) (n ∷ []) []
+
+-- ---- "L = 8 lists 16, 17 and measures 14 to 19; L = 40 lists 79 to 81, measures 78 to 83; L = 72 lists 143, measures 142 to 144."
+
+pub marks-of-8 : (passing 200 (listed (8 ∷ [])) ≡ 16 ∷ 17 ∷ []) × (passing 200 (measured (8 ∷ [])) ≡ 14 ∷ 15 ∷ 16 ∷ 17 ∷ 18 ∷ 19 ∷ [])
+unfolding passing listed measured near mark-near some
+marks-of-8 = (refl, refl)
+
+pub marks-of-40 : (passing 200 (listed (40 ∷ [])) ≡ 79 ∷ 80 ∷ 81 ∷ []) × (passing 200 (measured (40 ∷ [])) ≡ 78 ∷ 79 ∷ 80 ∷ 81 ∷ 82 ∷ 83 ∷ [])
+unfolding passing listed measured near mark-near some
+marks-of-40 = (refl, refl)
+
+pub marks-of-72 : (passing 200 (listed (72 ∷ [])) ≡ 143 ∷ []) × (passing 200 (measured (72 ∷ [])) ≡ 142 ∷ 143 ∷ 144 ∷ [])
+unfolding passing listed measured near mark-near some
+marks-of-72 = (refl, refl)
+
+-- ---- "At most 24 are listed."
+
+-- one number more
+abbrev one : Bool → ℕ
+one true = 1
+one false = 0
+
+one-more : (n : ℕ) (t : ℕ → Bool) → length (passing (suc n) t) ≡ length (passing n t) + one (t n)
+unfolding passing
+one-more n t = length-append (passing n t) (cond (t n) (n ∷ []) []) ∙ ap (λ (k : ℕ). length (passing n t) + k) (by (t n))
+  where
+    by : (b : Bool) → length (cond b (n ∷ []) []) ≡ one b
+    by true = refl
+    by false = refl
+
+-- a test that says less passes no fewer
+fewer : (n : ℕ) (s t : ℕ → Bool) → ((d : ℕ) → s d ≡ true → t d ≡ true) → length (passing n s) ≤ length (passing n t)
+unfolding passing
+fewer zero s t h = omega arith
+fewer (suc n) s t h = omega (arith, one-more n s, one-more n t, fewer n s t h, by (s n) (t n) (h n))
+  where
+    by : (a b : Bool) → (a ≡ true → b ≡ true) → one a ≤ one b
+    by true true k = omega arith
+    by true false k = absurd (false≢true (k refl))
+    by false b k = omega arith
+
+-- one of two tests
+either : (n : ℕ) (s t : ℕ → Bool) → length (passing n (λ d. s d || t d)) ≤ length (passing n s) + length (passing n t)
+unfolding passing
+either zero s t = omega arith
+either (suc n) s t = omega (arith, one-more n (λ d. s d || t d), one-more n s, one-more n t, either n s t, by (s n) (t n))
+  where
+    by : (a b : Bool) → one (a || b) ≤ one a + one b
+    by true b = omega arith
+    by false b = omega arith
+
+-- one kept lag lists three at most: of the numbers below n those from v - 1 to v + 1
+in-window : (v n c o : ℕ) → c ≤ min n (v + 2) - (v - 1) → o ≤ 1 → v ≤ n + 1 → n ≤ v + 1 → c + o ≤ min (suc n) (v + 2) - (v - 1)
+in-window v n c o h k l m = omega arith
+
+outside : (v n c : ℕ) → c ≤ min n (v + 2) - (v - 1) → c + 0 ≤ min (suc n) (v + 2) - (v - 1)
+outside v n c h = omega arith
+
+and-at : (a b : Bool) → one (a && b) ≤ 1
+and-at true true = omega arith
+and-at true false = omega arith
+and-at false b = omega arith
+
+module _ (v : ℕ) where
+  abbrev window : ℕ → Bool
+  window d = leb v (d + 1) && leb d (v + 1)
+
+  few-in : (n : ℕ) → length (passing n window) ≤ min n (v + 2) - (v - 1)
+  unfolding passing
+  few-in zero = omega arith
+  few-in (suc n) = rw (one-more n window) (by (few-in n) (leb v (n + 1)) (leb n (v + 1)) refl refl)
+    where
+      by : length (passing n window) ≤ min n (v + 2) - (v - 1) → (a b : Bool) → leb v (n + 1) ≡ a → leb n (v + 1) ≡ b
+          → length (passing n window) + one (window n) ≤ min (suc n) (v + 2) - (v - 1)
+      by h true true p q = in-window v n (length (passing n window)) (one (window n)) h (and-at (leb v (n + 1)) (leb n (v + 1))) (leb-true v (n + 1) p) (leb-true n (v + 1) q)
+      by h true false p q = rw (ap₂ (λ (a b : Bool). one (a && b)) p q) (outside v n (length (passing n window)) h)
+      by h false b p q = rw (ap (λ (a : Bool). one (a && leb n (v + 1))) p) (outside v n (length (passing n window)) h)
+
+  three : (n : ℕ) → length (passing n window) ≤ 3
+  three n = omega (arith, few-in n)
+
+no-number : (n : ℕ) → length (passing n (λ d. false)) ≤ 0
+unfolding passing
+no-number zero = omega arith
+no-number (suc n) = omega (arith, one-more n (λ d. false), no-number n)
+
+-- so k kept lags list 3 × k at most
+of-some : (kept : List ℕ) (n k : ℕ) → length (passing n (λ d. some k (mark-near kept 1 1 d))) ≤ 3 * k
+unfolding some mark-near
+of-some kept n zero = no-number n
+of-some kept n (suc k) =
+    omega (arith, either n (λ d. some k (mark-near kept 1 1 d)) (λ d. mark-near kept 1 1 d k), of-some kept n k, three (2 * getD kept k 0) n)
+
+last : (a b c : Bool) → (a && (b && c)) ≡ true → c ≡ true
+last true true c e = e
+last true false c e = absurd (false≢true e)
+last false b c e = absurd (false≢true e)
+
+pub at-most-24 : (kept : List ℕ) → Kept kept → (n : ℕ) → length (passing n (listed kept)) ≤ 24
+unfolding listed near
+at-most-24 kept r n =
+    let h = fewer n (listed kept) (near kept 1 1) (λ d e. last (leb 16 d) (leb d 143) (near kept 1 1 d) e) in
+    omega (arith, h, of-some kept n (length kept), r .few)

@@ -1,0 +1,28 @@
+-- The lags of stage 2, at 8 kHz, that the lags kept by stage 1, at 4 kHz, mark. Definitions only; the laws are in `MarkLaws`.
+use mathlib.Core.Bool.{Bool, _&&_}
+use mathlib.Core.List.{List}
+use Prim.Native.Nat.{ℕ, _+_, _*_, _≤_, _<_}
+use lib.Dec.{leb}
+use lib.ListN.{length, getD}
+use Rattle.best.specs.Best.{some}
+
+-- "Kept lag L marks v = 2L": d lies from v - below to v + above, for the i-th kept lag; and for some kept lag
+unfoldable pub mark-near : List ℕ → ℕ → ℕ → ℕ → ℕ → Bool
+mark-near kept below above d i = leb (2 * getD kept i 0) (d + below) && leb d (2 * getD kept i 0 + above)
+
+unfoldable pub near : List ℕ → ℕ → ℕ → ℕ → Bool
+near kept below above d = some (length kept) (mark-near kept below above d)
+
+-- "lags v - 1 to v + 1 are listed if within 16 to 143"
+unfoldable pub listed : List ℕ → ℕ → Bool
+listed kept d = leb 16 d && (leb d 143 && near kept 1 1 d)
+
+-- "and v - 2 to v + 3 measured if within 14 to 144"
+unfoldable pub measured : List ℕ → ℕ → Bool
+measured kept d = leb 14 d && (leb d 144 && near kept 2 3 d)
+
+-- what stage 1 hands over: at most 4 + 2 × 2 lags, each from 8 to 72
+pub record Kept (kept : List ℕ) : Type 0 where
+  pub few : length kept ≤ 8
+  pub low : (i : ℕ) → i < length kept → 8 ≤ getD kept i 0
+  pub high : (i : ℕ) → i < length kept → getD kept i 0 ≤ 72

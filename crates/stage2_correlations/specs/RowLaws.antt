@@ -1,0 +1,123 @@
+-- Laws of a subframe's row: a ratio way by way, the divisor from running energies, one lag more, and the row at the marks of the kept lags.
+-- Assumes nothing.
+use mathlib.Core.Path.{_≡_, refl, sym, ap, ap₂, _∙_}
+use mathlib.Core.Bool.{Bool, true, false, _&&_, _||_, cond}
+use mathlib.Core.List.{List, _++_, append-nil}
+use Prim.Native.Nat.{ℕ, _+_, _-_, _<_}
+use native.Mathlib.Numerals.{add-one}
+use native.Mathlib.Omega.{arith}
+use lib.IntN.{ℤ, pos, _+ℤ_, _-ℤ_, _*ℤ_, +ℤ-assoc}
+use lib.ListN.{length, getD, drop}
+use lib.Seq.{drop-length}
+use lib.Signed.{ltZ}
+use mir.Syntax.{w16, w32}
+use Rattle.zint.specs.Equal.{eqZ}
+use Rattle.zint.specs.Wrap.{wrap}
+use Rattle.zint.specs.WrapLaws.{wraps}
+use Rattle.lists.specs.Signal.{sample}
+use Rattle.lists.specs.Fill.{table, filled, getD-table, table-ext}
+use Rattle.best.specs.Best.{some}
+use Rattle.best.specs.BestLaws.{some-ext}
+use Rattle.silk_macros.specs.Divide.{quotient, div32-varq}
+use Rattle.silk_macros.specs.declared.Quotient.{Quotient}
+use Rattle.silk_macros.specs.declared.Quotient.the-variants.{Value, ZeroDivisor}
+use Rattle.silk_sigproc.specs.Dot.{dot}
+use Rattle.silk_sigproc.specs.DotLaws.{dot-slide}
+use Rattle.stage2_correlations.specs.declared.Ratio.{Ratio}
+use Rattle.stage2_correlations.specs.Marks.{measured}
+use Rattle.stage2_correlations.specs.Correlations.{target, cross, divisor, low16-of, ratio, by-zero, correlation, zero-reached}
+use Rattle.stage2_correlations.specs.Rows.{ratio-of, energy-from, at-lag, value-at, zero-at, row}
+
+-- a list filled to its end
+pub filled-all : {A : Type 0} (f : ℕ → A) (n : ℕ) (l : List A) → length l ≡ n → filled f n l ≡ table f n
+unfolding filled
+filled-all f n l e = ap (λ t. table f n ++ t) (ap (λ (k : ℕ). drop k l) (sym e) ∙ drop-length l) ∙ append-nil (table f n)
+
+-- a ratio is its two parts
+pub ratio-by : {a b : Bool} {x y : ℤ} → a ≡ b → x ≡ y → _≡_ {A = Ratio} (record { zero = a; value = x }) (record { zero = b; value = y })
+ratio-by p q = λ i. record { zero = p i; value = q i }
+
+-- ---- the quotient's two answers
+
+value-not : (t : Bool) (x q : ℤ) → cond t ZeroDivisor (Value x) ≡ Value q → t ≡ false
+value-not true x q e = let z : _≡_ {A = ℕ} 0 1 = cc in absurd (omega arith)
+value-not false x q e = refl
+
+zero-so : (t : Bool) (x : ℤ) → cond t ZeroDivisor (Value x) ≡ ZeroDivisor → t ≡ true
+zero-so true x e = refl
+zero-so false x e = let z : _≡_ {A = ℕ} 0 1 = cc in absurd (omega arith)
+
+module _ (x n : ℤ) where
+  pub ratio-none : ltZ (pos 0) x ≡ false → record { zero = false; value = pos 0 } ≡ ratio-of x n
+  unfolding ratio-of ratio by-zero
+  ratio-none h = sym (ratio-by (ap (λ (t : Bool). t && eqZ n (pos 0)) h) (ap (λ (t : Bool). cond t (low16-of (quotient x n (pos 14))) (pos 0)) h))
+
+  pub ratio-value : (q : ℤ) → ltZ (pos 0) x ≡ true → quotient x n (pos 14) ≡ Value q → record { zero = false; value = wrap w16 q } ≡ ratio-of x n
+  unfolding ratio-of ratio by-zero quotient
+  ratio-value q h e =
+      sym (ratio-by (ap₂ _&&_ h (value-not (eqZ n (pos 0)) (div32-varq x n (pos 14)) q e)) (ap₂ (λ (t : Bool) (a : Quotient). cond t (low16-of a) (pos 0)) h e))
+
+  pub ratio-zero : ltZ (pos 0) x ≡ true → quotient x n (pos 14) ≡ ZeroDivisor → record { zero = true; value = pos 0 } ≡ ratio-of x n
+  unfolding ratio-of ratio by-zero quotient
+  ratio-zero h e =
+      sym (ratio-by (ap₂ _&&_ h (zero-so (eqZ n (pos 0)) (div32-varq x n (pos 14)) e)) (ap₂ (λ (t : Bool) (a : Quotient). cond t (low16-of a) (pos 0)) h e))
+
+-- ---- the divisor from the two energies, and the basis energy one sample earlier
+
+pub norm-is : (e : List ℤ) (k d : ℕ) → wrap w32 (wrap w32 (wrap w32 (energy-from e (target k)) +ℤ pos 1) +ℤ wrap w32 (energy-from e (target k - d))) ≡ divisor e k d
+unfolding energy-from divisor
+norm-is e k d = simp wraps
+
+pub energy-back : (e : List ℤ) (b : ℕ) (z : ℤ) → z ≡ wrap w32 (energy-from e (b + 1))
+    → wrap w32 (z -ℤ getD e (b + 40) (pos 0) *ℤ getD e (b + 40) (pos 0) +ℤ getD e b (pos 0) *ℤ getD e b (pos 0)) ≡ wrap w32 (energy-from e b)
+unfolding energy-from sample
+energy-back e b z h =
+    let g = getD e (b + 40) (pos 0) in
+    let f = getD e b (pos 0) in
+    ap (λ (y : ℤ). wrap w32 (y -ℤ g *ℤ g +ℤ f *ℤ f)) (h ∙ ap (λ (m : ℕ). wrap w32 (dot (drop m e) (drop m e) 40)) (add-one b))
+    ∙ (simp (wraps, +ℤ-assoc))
+    ∙ ap (wrap w32) (sym (dot-slide e b 40))
+
+-- ---- one lag more
+
+pub at-lag-is : (e : List ℤ) (m : List Bool) (k i : ℕ) (n : ℤ) → n ≡ divisor e k (14 + i)
+    → at-lag (getD m i false) e (target k) (14 + i) n ≡ record { zero = zero-at e m k i; value = value-at e m k i }
+unfolding at-lag ratio-of cross
+at-lag-is e m k i n h = by (getD m i false)
+  where
+    by : (t : Bool) → cond t (ratio-of (wrap w32 (dot (drop (target k) e) (drop (target k - (14 + i)) e) 40)) n) (record { zero = false; value = pos 0 })
+        ≡ record { zero = t && by-zero (cross e k (14 + i)) (divisor e k (14 + i)); value = cond t (ratio (cross e k (14 + i)) (divisor e k (14 + i))) (pos 0) }
+    by true = ap (ratio-of (cross e k (14 + i))) h
+    by false = refl
+
+pub some-next : (n : ℕ) (t : ℕ → Bool) → some (n + 1) t ≡ (some n t || t n)
+unfolding some
+some-next n t = ap (λ (m : ℕ). some m t) (add-one n)
+
+or-true : (a : Bool) → (a || true) ≡ true
+or-true true = refl
+or-true false = refl
+
+or-false : (a : Bool) → (a || false) ≡ a
+or-false true = refl
+or-false false = refl
+
+pub some-more : (n : ℕ) (t : ℕ → Bool) {z : Bool} → t n ≡ true → z ≡ true → z ≡ some (n + 1) t
+some-more n t e f = f ∙ sym (some-next n t ∙ ap (λ (b : Bool). some n t || b) e ∙ or-true (some n t))
+
+pub some-same : (n : ℕ) (t : ℕ → Bool) {z : Bool} → t n ≡ false → z ≡ some n t → z ≡ some (n + 1) t
+some-same n t e f = f ∙ sym (some-next n t ∙ ap (λ (b : Bool). some n t || b) e ∙ or-false (some n t))
+
+-- ---- the row at the marks of the kept lags
+
+pub row-kept : (e : List ℤ) (kept : List ℕ) (k : ℕ)
+    → row e (table (λ i. measured kept (14 + i)) 132) k ≡ record { zero = some 132 (λ i. zero-reached e kept k (14 + i)); c = table (λ i. correlation e kept k (14 + i)) 132 }
+unfolding row correlation zero-reached
+row-kept e kept k =
+    let m : (i : ℕ) → i < 132 → getD (table (λ i. measured kept (14 + i)) 132) i false ≡ measured kept (14 + i) = λ i h. getD-table _ 132 i false h in
+    (λ t. record {
+      zero = some-ext 132 (zero-at e (table (λ i. measured kept (14 + i)) 132) k) (λ i. measured kept (14 + i) && by-zero (cross e k (14 + i)) (divisor e k (14 + i)))
+          (λ i h. ap (λ (b : Bool). b && by-zero (cross e k (14 + i)) (divisor e k (14 + i))) (m i h)) t;
+      c = table-ext {f = value-at e (table (λ i. measured kept (14 + i)) 132) k} {g = λ i. cond (measured kept (14 + i)) (ratio (cross e k (14 + i)) (divisor e k (14 + i))) (pos 0)} 132
+          (λ i h. ap (λ (b : Bool). cond b (ratio (cross e k (14 + i)) (divisor e k (14 + i))) (pos 0)) (m i h)) t;
+    })

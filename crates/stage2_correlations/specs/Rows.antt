@@ -1,0 +1,34 @@
+-- What the functions of a subframe answer, over any marks: a ratio, a lag's correlation, and the row of the lags 14 to 145. Nothing here is part of what stage 2 means.
+-- Assumes nothing.
+use mathlib.Core.Bool.{Bool, false, _&&_, cond}
+use mathlib.Core.List.{List}
+use Prim.Native.Nat.{ℕ, _+_, _-_}
+use lib.IntN.{ℤ, pos}
+use lib.ListN.{drop, getD}
+use mir.Syntax.{w32}
+use Rattle.zint.specs.Wrap.{wrap}
+use Rattle.lists.specs.Fill.{table}
+use Rattle.best.specs.Best.{some}
+use Rattle.silk_sigproc.specs.Dot.{dot}
+use Rattle.stage2_correlations.specs.declared.Ratio.{Ratio}
+use Rattle.stage2_correlations.specs.declared.Row.{Row}
+use Rattle.stage2_correlations.specs.Correlations.{cross, divisor, ratio, by-zero}
+
+unfoldable pub ratio-of : ℤ → ℤ → Ratio
+ratio-of x n = record { zero = by-zero x n; value = ratio x n }
+
+unfoldable pub energy-from : List ℤ → ℕ → ℤ
+energy-from e t = dot (drop t e) (drop t e) 40
+
+unfoldable pub at-lag : Bool → List ℤ → ℕ → ℕ → ℤ → Ratio
+at-lag m e t d n = cond m (ratio-of (wrap w32 (dot (drop t e) (drop (t - d) e) 40)) n) (record { zero = false; value = pos 0 })
+
+-- the i-th lag's correlation, and whether its divisor is reached and zero
+abbrev pub value-at : List ℤ → List Bool → ℕ → ℕ → ℤ
+value-at e m k i = cond (getD m i false) (ratio (cross e k (14 + i)) (divisor e k (14 + i))) (pos 0)
+
+abbrev pub zero-at : List ℤ → List Bool → ℕ → ℕ → Bool
+zero-at e m k i = getD m i false && by-zero (cross e k (14 + i)) (divisor e k (14 + i))
+
+unfoldable pub row : List ℤ → List Bool → ℕ → Row
+row e m k = record { zero = some 132 (zero-at e m k); c = table (value-at e m k) 132 }

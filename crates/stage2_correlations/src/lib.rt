@@ -1,0 +1,175 @@
+// Stage 2's measurements at 8 kHz: the lags that stage 1's kept lags list and measure, and a subframe's correlations by lag.
+ghost use mathlib.Core.Path.{_≡_};
+ghost use Prim.Native.Nat.{ℕ, _+_, _-_, _≤_, _<_};
+ghost use lib.IntN.{_+ℤ_, _-ℤ_, _*ℤ_};
+ghost use lib.ListN.{length};
+ghost use mir.Syntax.{w32};
+ghost use Rattle.zint.specs.Wrap.{wrap};
+ghost use Rattle.lists.specs.Fill.{table};
+ghost use Rattle.stage2_correlations.specs.Marks.{near, listed, measured, Kept};
+ghost use Rattle.stage2_correlations.specs.Correlations.{target};
+ghost use Rattle.stage2_correlations.specs.Rows.{ratio-of, energy-from, at-lag, row};
+use silk_macros::Quotient;
+use silk_macros::silk_div32_varq;
+use silk_sigproc::silk_inner_prod_aligned;
+use silk_sigproc::square;
+use zint::low16;
+use zint::wrapping_add_i32;
+use zint::wrapping_sub_i32;
+
+pub const MIN_LAG_8KHZ: usize = 16;
+
+pub const MAX_LAG_8KHZ: usize = 143;
+
+pub const SF_LENGTH_8KHZ: usize = 40;
+
+// A lag's correlation, and whether its divisor was reached and is zero.
+pub struct Ratio {
+    pub zero: bool,
+    pub value: i16,
+}
+
+// A subframe's correlations at the lags 14 to 145, and whether a divisor that was reached is zero.
+pub struct Row {
+    pub zero: bool,
+    pub c: [i16; 132],
+}
+
+// Whether d lies from v - below to v + above for the double v of a kept lag.
+fn is_near(kept: &[usize], d: usize, below: usize, above: usize) -> bool
+    requires { ⌜ Kept (now kept) × ((d ≤ 145) × ((below ≤ 2) × (above ≤ 3))) ⌝ }
+    ensures { λ r. ⌜ r ≡ near (now (kept .entry)) below above d ⌝ }
+{
+    for i in 0..kept.len() {
+        let v = 2 * kept[i];
+        if v <= d + below {
+            if d <= v + above {
+                return true;
+            }
+        }
+    }
+    false
+}
+
+pub fn is_listed(kept: &[usize], d: usize) -> bool
+    requires { ⌜ Kept (now kept) × (d ≤ 145) ⌝ }
+    ensures { λ r. ⌜ r ≡ listed (now (kept .entry)) d ⌝ }
+{
+    if d < MIN_LAG_8KHZ {
+        return false;
+    }
+    if d > MAX_LAG_8KHZ {
+        return false;
+    }
+    is_near(kept, d, 1, 1)
+}
+
+fn is_measured(kept: &[usize], d: usize) -> bool
+    requires { ⌜ Kept (now kept) × (d ≤ 145) ⌝ }
+    ensures { λ r. ⌜ r ≡ measured (now (kept .entry)) d ⌝ }
+{
+    if d < MIN_LAG_8KHZ - 2 {
+        return false;
+    }
+    if d > MAX_LAG_8KHZ + 1 {
+        return false;
+    }
+    is_near(kept, d, 2, 3)
+}
+
+// Which of the lags 14 to 145 are measured.
+pub fn measured_lags(kept: &[usize]) -> [bool; 132]
+    requires { ⌜ Kept (now kept) ⌝ }
+    ensures { λ r. ⌜ r ≡ table (λ (i : ℕ). measured (now (kept .entry)) (14 + i)) 132 ⌝ }
+{
+    let mut marks = [false; 132];
+    for i in 0..132 {
+        marks[i] = is_measured(kept, 14 + i);
+    }
+    marks
+}
+
+// The quotient where the cross-correlation is positive.
+fn divide(cross_corr: i32, norm: i32) -> Ratio
+    ensures { λ r. ⌜ r ≡ ratio-of «cross_corr» norm ⌝ }
+{
+    if cross_corr > 0 {
+        let Quotient::Value(q) = silk_div32_varq(cross_corr, norm, 14) else {
+            return Ratio {
+                zero: true,
+                value: 0,
+            };
+        };
+        Ratio {
+            zero: false,
+            value: low16(q) as i16,
+        }
+    } else {
+        Ratio {
+            zero: false,
+            value: 0,
+        }
+    }
+}
+
+// The correlation at the lag d of the samples from target on; 0 where the lag is not measured.
+fn correlate(marked: bool, frame_8khz: &[i16], target: usize, d: usize, norm: i32) -> Ratio
+    requires { ⌜ (d ≤ target) × (target + 40 ≤ length (now «frame_8khz»)) ⌝ }
+    ensures { λ r. ⌜ r ≡ at-lag marked (now («frame_8khz» .entry)) target d norm ⌝ }
+{
+    if marked {
+        let basis = target - d;
+        divide(
+            silk_inner_prod_aligned(&frame_8khz[target..], &frame_8khz[basis..], SF_LENGTH_8KHZ),
+            norm,
+        )
+    } else {
+        Ratio {
+            zero: false,
+            value: 0,
+        }
+    }
+}
+
+// The running energy with one sample gone and one more come.
+fn slide(energy: i32, gone: i16, come: i16) -> i32
+    ensures { λ r. ⌜ r ≡ wrap w32 (energy -ℤ gone *ℤ gone +ℤ come *ℤ come) ⌝ }
+{
+    wrapping_add_i32(wrapping_sub_i32(energy, square(gone)), square(come))
+}
+
+// The energy of the 40 samples from start on.
+fn energy(frame_8khz: &[i16], start: usize) -> i32
+    requires { ⌜ start + 40 ≤ length (now «frame_8khz») ⌝ }
+    ensures { λ r. ⌜ r ≡ wrap w32 (energy-from (now («frame_8khz» .entry)) start) ⌝ }
+{
+    silk_inner_prod_aligned(&frame_8khz[start..], &frame_8khz[start..], SF_LENGTH_8KHZ)
+}
+
+// The correlations of subframe k at the marked lags.
+pub fn subframe_row(frame_8khz: &[i16], k: usize, marks: &[bool; 132]) -> Row
+    requires { ⌜ (k < 4) × (target k + 40 ≤ length (now «frame_8khz»)) ⌝ }
+    ensures { λ r. ⌜ r ≡ row (now («frame_8khz» .entry)) (now (marks .entry)) k ⌝ }
+{
+    let target = 160 + SF_LENGTH_8KHZ * k;
+    let energy_target = wrapping_add_i32(energy(frame_8khz, target), 1);
+    let mut energy_basis = energy(frame_8khz, target - 14);
+    let mut c_8khz = [0i16; 132];
+    let mut zero = false;
+    for i in 0..132 {
+        let norm = wrapping_add_i32(energy_target, energy_basis);
+        let at = correlate(marks[i], frame_8khz, target, 14 + i, norm);
+        let value = at.value;
+        c_8khz[i] = value;
+        if at.zero {
+            zero = true;
+        }
+        let basis = target - 15 - i;
+        energy_basis = slide(
+            energy_basis,
+            frame_8khz[basis + SF_LENGTH_8KHZ],
+            frame_8khz[basis],
+        );
+    }
+    Row { zero, c: c_8khz }
+}
