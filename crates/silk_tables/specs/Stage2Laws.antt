@@ -2,27 +2,21 @@
 -- Assumes nothing.
 use mathlib.Core.Path.{_≡_, refl, sym, ap, _∙_}
 use mathlib.Core.Bool.{Bool, true, false, _&&_, cond, and-false}
-use mathlib.Core.List.{List, [], _∷_}
-use mathlib.Core.Logic.{_⊎_, ⊎-elim}
-use Prim.Native.Nat.{ℕ, zero, suc, _+_, _≤_}
-use native.Mathlib.Omega.{arith}
+use mathlib.Core.List.{[]}
+use Prim.Native.Nat.{ℕ, _+_, _≤_}
 use lib.Dec.{eqb, ltb, lit≤}
 use borrow.Author.Tests.{ne-eqb}
-use lib.IntN.{ℤ, pos, negsuc, _+ℤ_}
+use lib.IntN.{pos, negsuc, _+ℤ_}
 use mir.Syntax.{w32}
 use mir.Val.{SFits}
 use lib.ListN.{getD}
-use lib.Signed.{leZ, _≤ℤ_}
-use Rattle.zint.specs.Tests.{le-true}
+use lib.Signed.{_≤ℤ_}
 use Rattle.zint.specs.Shift.{nonneg-abs}
 use Rattle.zint.specs.Diff.{v, n as num, _⊕_, le-by, sfits-by, eq-in, zarith}
-use Rattle.silk_tables.specs.TestLaws.{and-left, and-right}
-use Rattle.silk_tables.specs.Tables.{cb-lags-stage2, cb-lags-stage2-10-ms, entries2, contours2, offset2, offset2-small, all-of, moved-lag2}
+use Rattle.silk_tables.specs.EntryLaws.{table-within, all-of, within, entry-ge, entry-le}
+use Rattle.silk_tables.specs.Tables.{cb-lags-stage2, cb-lags-stage2-10-ms, entries2, contours2, offset2, moved-lag2}
 
 -- ---- the tables and counts that the settings choose
-
-pub two-or : {nb : ℕ} → (nb ≡ 2) ⊎ (nb ≡ 4) → (nb ≡ 4 → ⊥) → nb ≡ 2
-two-or s g = ⊎-elim (λ e. e) (λ e. absurd (g e)) s
 
 pub offset2-4 : (nb k j : ℕ) → nb ≡ 4 → offset2 nb k j ≡ getD (getD cb-lags-stage2 k []) j (pos 0)
 unfolding offset2
@@ -70,36 +64,18 @@ contours2-bounds fs nb cx = few (eqb fs 8 && (eqb nb 4 && ltb 0 cx))
 
 -- ---- the test over each table, and what it says of a subframe and a contour
 
-small-20-ms : all-of (all-of offset2-small) cb-lags-stage2 ≡ true
-unfolding all-of offset2-small cb-lags-stage2
-small-20-ms = refl
-
-small-10-ms : all-of (all-of offset2-small) cb-lags-stage2-10-ms ≡ true
-unfolding all-of offset2-small cb-lags-stage2-10-ms
-small-10-ms = refl
-
-small-of : (t : Bool) → all-of (all-of offset2-small) (cond t cb-lags-stage2 cb-lags-stage2-10-ms) ≡ true
-small-of true = small-20-ms
-small-of false = small-10-ms
-
--- an entry of a list that passes, and what is read past its end
-all-at : {A : Type 0} (test : A → Bool) (xs : List A) (i : ℕ) (d : A) → all-of test xs ≡ true → test d ≡ true → test (getD xs i d) ≡ true
-unfolding all-of
-all-at test [] i d e f = f
-all-at test (x ∷ xs) zero d e f = and-left (test x) (all-of test xs) e
-all-at test (x ∷ xs) (suc i) d e f = all-at test xs i d (and-right (test x) (all-of test xs) e) f
-
-small : (nb k j : ℕ) → offset2-small (offset2 nb k j) ≡ true
-unfolding offset2 offset2-small all-of
-small nb k j = all-at offset2-small (getD (cond (eqb nb 4) cb-lags-stage2 cb-lags-stage2-10-ms) k []) j (pos 0) (all-at (all-of offset2-small) (cond (eqb nb 4) cb-lags-stage2 cb-lags-stage2-10-ms) k [] (small-of (eqb nb 4)) refl) refl
+small : (t : Bool) → table-within (negsuc 0) (pos 2) (cond t cb-lags-stage2 cb-lags-stage2-10-ms) ≡ true
+unfolding table-within all-of within cb-lags-stage2 cb-lags-stage2-10-ms
+small true = refl
+small false = refl
 
 pub offset2-ge : (nb k j : ℕ) → negsuc 0 ≤ℤ offset2 nb k j
-unfolding offset2-small
-offset2-ge nb k j = le-true (negsuc 0) (offset2 nb k j) (and-left (leZ (negsuc 0) (offset2 nb k j)) (leZ (offset2 nb k j) (pos 2)) (small nb k j))
+unfolding offset2
+offset2-ge nb k j = entry-ge (negsuc 0) (pos 2) (cond (eqb nb 4) cb-lags-stage2 cb-lags-stage2-10-ms) (small (eqb nb 4)) k j
 
 pub offset2-le : (nb k j : ℕ) → offset2 nb k j ≤ℤ pos 2
-unfolding offset2-small
-offset2-le nb k j = le-true (offset2 nb k j) (pos 2) (and-right (leZ (negsuc 0) (offset2 nb k j)) (leZ (offset2 nb k j) (pos 2)) (small nb k j))
+unfolding offset2
+offset2-le nb k j = entry-le (negsuc 0) (pos 2) (cond (eqb nb 4) cb-lags-stage2 cb-lags-stage2-10-ms) (small (eqb nb 4)) k j
 
 -- ---- a lag moved by an offset
 

@@ -1,7 +1,8 @@
--- The tables' rule, tested once over each table, and what it says of a subframe and a contour.
+-- The rule of stage 3's tables, tested once over each table, and what it says of a subframe and a contour: every offset in use is at least the low end of its
+-- range, and with four added at most the high end.
 -- Assumes nothing.
 use mathlib.Core.Path.{_≡_, refl, sym, ap, _∙_}
-use mathlib.Core.Bool.{Bool, true, false, _&&_, cond}
+use mathlib.Core.Bool.{Bool, true, _&&_, cond}
 use mathlib.Core.List.{[], _∷_}
 use mathlib.Core.Logic.{_⊎_, ⊎-elim}
 use Prim.Native.Nat.{ℕ, zero, suc, _+_, _-_, _<_, _≤_}
@@ -19,40 +20,47 @@ use Rattle.zint.specs.Shift.{nonneg-abs}
 use Rattle.zint.specs.Diff.{v, n as num, _⊕_, _⊖_, le-of, le-by, sfits-by, le-in, eq-in, zarith}
 use Rattle.best.specs.Best.{every}
 use Rattle.silk_tables.specs.TestLaws.{and-left, and-right}
-use Rattle.silk_tables.specs.Tables.{Settings, cb-lags-stage3, cb-lags-stage3-10-ms, lag-range-stage3, lag-range-stage3-10-ms, in-use, offset, range, low, high, total, first-lag, place, moved-lag, offset-in-range, range-small, rule}
+use Rattle.silk_tables.specs.Tables.{Settings, cb-lags-stage3, cb-lags-stage3-10-ms, lag-range-stage3, lag-range-stage3-10-ms, in-use, offset, range, low, high, total, first-lag, place, moved-lag, offset-in-range, range-small, rule, table-rule}
 
--- ---- the test over each table
+-- ---- the rule, tested once over each table
 
-rule-10-ms : (cx : ℕ) → rule 2 cx ≡ true
-unfolding rule every range-small offset-in-range in-use offset low high range cb-lags-stage3-10-ms lag-range-stage3-10-ms
-rule-10-ms cx = refl
+rule-20-ms : table-rule 4 ≡ true
+unfolding table-rule rule every range-small offset-in-range in-use offset low high range cb-lags-stage3 lag-range-stage3
+rule-20-ms = refl
 
-rule-0 : rule 4 0 ≡ true
-unfolding rule every range-small offset-in-range in-use offset low high range cb-lags-stage3 lag-range-stage3
-rule-0 = refl
+rule-10-ms : table-rule 2 ≡ true
+unfolding table-rule rule every range-small offset-in-range in-use offset low high range cb-lags-stage3-10-ms lag-range-stage3-10-ms
+rule-10-ms = refl
 
-rule-1 : rule 4 1 ≡ true
-unfolding rule every range-small offset-in-range in-use offset low high range cb-lags-stage3 lag-range-stage3
-rule-1 = refl
+pub table-rules : (nb : ℕ) → (nb ≡ 2) ⊎ (nb ≡ 4) → table-rule nb ≡ true
+table-rules nb s = ⊎-elim (λ (e : nb ≡ 2). ap table-rule e ∙ rule-10-ms) (λ (e : nb ≡ 4). ap table-rule e ∙ rule-20-ms) s
 
-rule-2 : rule 4 2 ≡ true
-unfolding rule every range-small offset-in-range in-use offset low high range cb-lags-stage3 lag-range-stage3
-rule-2 = refl
-
-four : (cx : ℕ) → cx < 3 → rule 4 cx ≡ true
-four zero h = rule-0
-four (suc zero) h = rule-1
-four (suc (suc zero)) h = rule-2
-four (suc (suc (suc m))) h = absurd (omega arith)
+every-at : (n : ℕ) (t : ℕ → Bool) → every n t ≡ true → (q : ℕ) → q < n → t q ≡ true
+unfolding every
+every-at zero t e q l = absurd (omega arith)
+every-at (suc n) t e q l = by-case (λ m. every-at n t (and-left (every n t) (t n) e) q m) (decLt q n)
+  where
+    by-case : (q < n → t q ≡ true) → Dec (q < n) → t q ≡ true
+    by-case rec (yes m) = rec m
+    by-case rec (no m) = let d : q ≡ n = omega arith in ap t d ∙ and-right (every n t) (t n) e
 
 pub rules : {nb cx : ℕ} → Settings nb cx → rule nb cx ≡ true
-rules {nb} {cx} s =
-    ⊎-elim (λ (e : nb ≡ 2). ap (λ (m : ℕ). rule m cx) e ∙ rule-10-ms cx) (λ (e : nb ≡ 4). ap (λ (m : ℕ). rule m cx) e ∙ four cx (s .complexity)) (s .subframes)
+unfolding table-rule
+rules {nb} {cx} s = every-at 3 (rule nb) (table-rules nb (s .subframes)) cx (s .complexity)
 
 -- ---- the tables that the settings choose
 
+pub two-or : {nb : ℕ} → (nb ≡ 2) ⊎ (nb ≡ 4) → (nb ≡ 4 → ⊥) → nb ≡ 2
+two-or s g = ⊎-elim (λ e. e) (λ e. absurd (g e)) s
+
+pub settings-of : {nb cx : ℕ} → (nb ≡ 2) ⊎ (nb ≡ 4) → cx < 3 → Settings nb cx
+settings-of {nb} s h = let b = between s in record { subframes = s; at-least = b .0; at-most = b .1; complexity = h }
+  where
+    between : (nb ≡ 2) ⊎ (nb ≡ 4) → (2 ≤ nb) × (nb ≤ 4)
+    between g = ⊎-elim (λ (e : nb ≡ 2). (omega arith, omega arith)) (λ (e : nb ≡ 4). (omega arith, omega arith)) g
+
 pub two-of : {nb cx : ℕ} → Settings nb cx → (nb ≡ 4 → ⊥) → nb ≡ 2
-two-of s g = ⊎-elim (λ e. e) (λ e. absurd (g e)) (s .subframes)
+two-of s g = two-or (s .subframes) g
 
 pub in-use-4 : (nb cx : ℕ) → nb ≡ 4 → in-use nb cx ≡ getD (16 ∷ 24 ∷ 34 ∷ []) cx 0
 unfolding in-use
@@ -92,15 +100,6 @@ in-use-bounds {nb} {cx} s =
     (s .subframes)
 
 -- ---- the rule at a subframe and a contour
-
-every-at : (n : ℕ) (t : ℕ → Bool) → every n t ≡ true → (q : ℕ) → q < n → t q ≡ true
-unfolding every
-every-at zero t e q l = absurd (omega arith)
-every-at (suc n) t e q l = by-case (λ m. every-at n t (and-left (every n t) (t n) e) q m) (decLt q n)
-  where
-    by-case : (q < n → t q ≡ true) → Dec (q < n) → t q ≡ true
-    by-case rec (yes m) = rec m
-    by-case rec (no m) = let d : q ≡ n = omega arith in ap t d ∙ and-right (every n t) (t n) e
 
 module _ {nb cx k : ℕ} (s : Settings nb cx) (hk : k < nb) where
   abbrev row : Bool

@@ -1,14 +1,14 @@
 -- `silk_tables::lag_cb_stage2` meets its contract: a lookup in the table that nb chooses. Assumes nothing.
 use mathlib.Core.Path.{sym, _∙_}
 use mathlib.Core.List.{[]}
-use mathlib.Core.Logic.{⊎-elim}
 use lib.IntN.{pos}
 use lib.ListN.{getD}
 use mir.Syntax.{w8, w32}
 use Rattle.zint.specs.Bound.{widen}
 use Rattle.zint.specs.Read.{r-elem, r-cast, f-cast}
 use Rattle.silk_tables.specs.Tables.{cb-lags-stage2, cb-lags-stage2-10-ms}
-use Rattle.silk_tables.specs.Stage2Laws.{entries2-4, entries2-other, two-or, offset2-4, offset2-other}
+use Rattle.silk_tables.specs.TableLaws.{two-or}
+use Rattle.silk_tables.specs.Stage2Laws.{entries2-4, entries2-other, offset2-4, offset2-other}
 use borrow.Author.Needs.{needs}
 use native.Mathlib.Omega.{arith}
 use Rattle.silk_tables.proofs.lag_cb_stage2.Statement.{statement}
