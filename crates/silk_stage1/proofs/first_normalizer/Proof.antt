@@ -1,0 +1,67 @@
+-- `silk_stage1::first_normalizer` meets its contract. Assumes nothing.
+use mathlib.Core.Path.{ap, _∙_}
+use Prim.Native.Nat.{ℕ, _-_}
+use lib.IntN.{ℤ, _+ℤ_}
+use lib.ListN.{drop}
+use mir.Syntax.{w32}
+use Rattle.zint.specs.Wrap.{wrap}
+use Rattle.zint.specs.Read.{r-got, r-lit, r-call2}
+use Rattle.silk_macros.specs.Macros.{smulbb}
+use Rattle.silk_sigproc.specs.Dot.{dot}
+use Rattle.silk_stage1.specs.ScoreLaws.{norm-first}
+use Rattle.zint.specs.Rules.{zneeds}
+use Rattle.silk_stage1.proofs.first_normalizer.Statement.{statement}
+use Rattle.silk_stage1.proofs.first_normalizer.Tie as tie
+
+target-requires : tie.Need-target-requires
+target-requires c κs = search zneeds
+
+energy-requires : tie.Need-energy-requires
+energy-requires c κs = search zneeds
+
+sub-energy : tie.Need-sub-energy
+sub-energy c = search zneeds
+
+energy-requires-2 : tie.Need-energy-requires-2
+energy-requires-2 c κs = search zneeds
+
+wrapping-add-i32-requires : tie.Need-wrapping-add-i32-requires
+wrapping-add-i32-requires c κs = search zneeds
+
+cast-silk-smulbb : tie.Need-cast-silk-smulbb
+cast-silk-smulbb c = search zneeds
+
+silk-smulbb-requires : tie.Need-silk-smulbb-requires
+silk-smulbb-requires c κs = search zneeds
+
+wrapping-add-i32-requires-2 : tie.Need-wrapping-add-i32-requires-2
+wrapping-add-i32-requires-2 c κs = search zneeds
+
+returns : tie.Need-returns
+returns c =
+    let s = c .before .before .before .before .before .before in
+    let t = c .before .before .before .before .before .target in
+    let f = s .args .frame-4khz .now in
+    let e = c .before .before .before .before .energy in
+    let g = c .before .before .before .energy2 in
+    let w = c .before .before .wrapping-add-i32 in
+    let m = c .before .silk-smulbb in
+    let x = r-got w32 (e .ok) (e .ensures ∙ ap (λ (n : ℕ). wrap w32 (dot (drop n f) (drop n f) 40)) (t .ensures)) in
+    let y = r-got w32 (g .ok) (g .ensures ∙ ap (λ (n : ℕ). wrap w32 (dot (drop (n - 8) f) (drop (n - 8) f) 40)) (t .ensures)) in
+    let z = r-call2 w32 (λ (x y : ℤ). wrap w32 (x +ℤ y)) (w .ok) x y (w .ensures) in
+    let k = r-call2 w32 smulbb (m .ok) (r-lit w32 40 tt) (r-lit w32 4000 tt) (m .ensures) in
+    r-call2 w32 (λ (x y : ℤ). wrap w32 (x +ℤ y)) (c .wrapping-add-i322 .ok) z k (c .wrapping-add-i322 .ensures) .val ∙ norm-first f (s .args .h)
+
+pub first-normalizer-spec : {M : Type 1} → statement M
+first-normalizer-spec =
+    tie.close
+    (tie.spec
+    target-requires
+    energy-requires
+    sub-energy
+    energy-requires-2
+    wrapping-add-i32-requires
+    cast-silk-smulbb
+    silk-smulbb-requires
+    wrapping-add-i32-requires-2
+    returns)

@@ -1,0 +1,72 @@
+-- `silk_stage1::lags_of` meets its contract. Assumes nothing.
+use mathlib.Core.Path.{_≡_, refl, ap, _∙_}
+use Prim.Native.Nat.{ℕ, _+_, _-_, _≤_}
+use native.Mathlib.Omega.{arith}
+use lib.ListN.{getD, replicate}
+use Rattle.lists.specs.Fill.{filled, filled-none, filled-turn}
+use Rattle.zint.specs.Rules.{zneeds}
+use Rattle.silk_stage1.proofs.lags_of.Statement.{statement}
+use Rattle.silk_stage1.proofs.lags_of.Tie as tie
+
+abbrev Inv-loop : tie.InvT-loop
+Inv-loop d-srch count lags₀ i₀ lags i = (i ≤ count) × (lags ≡ filled (λ (k : ℕ). 8 + getD d-srch k 0) i (replicate 8 0))
+
+abbrev μ-loop : tie.MeasureT-loop
+μ-loop d-srch count lags₀ i₀ lags i = count - i
+
+loop-holds : tie.Need-loop-holds Inv-loop μ-loop
+loop-holds c = (search zneeds, filled-none _ _)
+
+mul-lags : tie.Need-mul-lags Inv-loop μ-loop
+mul-lags c = search zneeds
+
+shared-slice-read-lags : tie.Need-shared-slice-read-lags Inv-loop μ-loop
+shared-slice-read-lags c = search zneeds
+
+add-lags : tie.Need-add-lags Inv-loop μ-loop
+add-lags c =
+    let s = c .before .before in
+    let l = s .before .pre .1 .1 (s .loop .i) (omega arith) in
+    omega arith
+
+mul-lags-2 : tie.Need-mul-lags-2 Inv-loop μ-loop
+mul-lags-2 c = search zneeds
+
+array-write-lags : tie.Need-array-write-lags Inv-loop μ-loop
+array-write-lags c = search zneeds
+
+add-i : tie.Need-add-i Inv-loop μ-loop
+add-i c = search zneeds
+
+loop-less : tie.Need-loop-less Inv-loop μ-loop
+loop-less c = search zneeds
+
+loop-again : tie.Need-loop-again Inv-loop μ-loop
+loop-again c =
+    let s = c .before .before in
+    let a = s .before .args in
+    (omega arith, filled-turn (λ (k : ℕ). 8 + getD (a .d-srch .now) k 0) (s .loop .i) (replicate 8 0) (s .loop .inv .1) refl (omega arith))
+
+returns : tie.Need-returns Inv-loop μ-loop
+returns c =
+    let s = c .before in
+    let a = s .before .args in
+    let e : s .loop .i ≡ a .count = omega arith in
+    s .loop .inv .1 ∙ ap (λ (m : ℕ). filled (λ (k : ℕ). 8 + getD (a .d-srch .now) k 0) m (replicate 8 0)) e
+
+pub lags-of-spec : {M : Type 1} → statement M
+lags-of-spec =
+    tie.close
+    (tie.spec
+    Inv-loop
+    μ-loop
+    loop-holds
+    mul-lags
+    shared-slice-read-lags
+    add-lags
+    mul-lags-2
+    array-write-lags
+    add-i
+    loop-less
+    loop-again
+    returns)

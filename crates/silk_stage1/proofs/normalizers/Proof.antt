@@ -1,0 +1,132 @@
+-- `silk_stage1::normalizers` meets its contract. Assumes nothing.
+use mathlib.Core.Path.{_≡_, ap, _∙_}
+use Prim.Native.Nat.{ℕ, _+_, _-_, _*_, _≤_}
+use native.Mathlib.Omega.{arith}
+use lib.Dec.{lit<, lit≤}
+use lib.IntN.{ℤ, pos, _+ℤ_, _-ℤ_, _*ℤ_}
+use lib.ListN.{replicate}
+use mir.Syntax.{w16, w32}
+use mir.Val.{toZ}
+use Rattle.zint.specs.Wrap.{wrap}
+use Rattle.zint.specs.Read.{r-got, r-elem}
+use Rattle.lists.specs.Signal.{sample}
+use Rattle.lists.specs.Fill.{filled, filled-none, filled-turn}
+use Rattle.silk_stage1.specs.Stage1.{norm1}
+use Rattle.silk_stage1.specs.ScoreLaws.{norm-next, filled-all}
+use Rattle.zint.specs.Rules.{zneeds}
+use Rattle.silk_stage1.proofs.normalizers.Statement.{statement}
+use Rattle.silk_stage1.proofs.normalizers.Tie as tie
+
+abbrev Inv-loop : tie.InvT-loop
+Inv-loop frame-4khz h normalizers₀ normalizer₀ basis i₀ normalizers normalizer i = (1 ≤ i) × ((i ≤ 65) × ((basis ≡ 72 + 40 * h) × ((toZ w32 normalizer ≡ norm1 frame-4khz h (8 + (i - 1))) × (normalizers ≡ filled (λ (k : ℕ). norm1 frame-4khz h (8 + k)) i (replicate 65 (pos 0))))))
+
+abbrev μ-loop : tie.MeasureT-loop
+μ-loop frame-4khz h normalizers₀ normalizer₀ basis i₀ normalizers normalizer i = 65 - i
+
+first-normalizer-requires : tie.Need-first-normalizer-requires Inv-loop μ-loop
+first-normalizer-requires c κs = search zneeds
+
+array-set-from-normalizers : tie.Need-array-set-from-normalizers Inv-loop μ-loop
+array-set-from-normalizers c = search zneeds
+
+target-requires : tie.Need-target-requires Inv-loop μ-loop
+target-requires c κs = search zneeds
+
+sub-basis : tie.Need-sub-basis Inv-loop μ-loop
+sub-basis c = search zneeds
+
+loop-holds : tie.Need-loop-holds Inv-loop μ-loop
+loop-holds c =
+    let f = c .before .first-normalizer in
+    let a = c .before .before .args in
+    let w = a .frame-4khz .now in
+    let v = r-got w32 (f .ok) (f .ensures) .val in
+    (omega arith, (omega arith, (omega arith, (v, filled-turn (λ (k : ℕ). norm1 w (a .h) (8 + k)) 0 (replicate 65 (pos 0)) (filled-none _ _) v (lit< tt)))))
+
+sub-come : tie.Need-sub-come Inv-loop μ-loop
+sub-come c = search zneeds
+
+mul-come : tie.Need-mul-come Inv-loop μ-loop
+mul-come c = search zneeds
+
+shared-slice-copy-out-come : tie.Need-shared-slice-copy-out-come Inv-loop μ-loop
+shared-slice-copy-out-come c = search zneeds
+
+sub-gone : tie.Need-sub-gone Inv-loop μ-loop
+sub-gone c = search zneeds
+
+add-gone : tie.Need-add-gone Inv-loop μ-loop
+add-gone c = search zneeds
+
+mul-gone : tie.Need-mul-gone Inv-loop μ-loop
+mul-gone c = search zneeds
+
+shared-slice-copy-out-gone : tie.Need-shared-slice-copy-out-gone Inv-loop μ-loop
+shared-slice-copy-out-gone c = search zneeds
+
+slide-requires : tie.Need-slide-requires Inv-loop μ-loop
+slide-requires c κs = search zneeds
+
+mul-normalizers : tie.Need-mul-normalizers Inv-loop μ-loop
+mul-normalizers c = search zneeds
+
+array-set-from-normalizers-2 : tie.Need-array-set-from-normalizers-2 Inv-loop μ-loop
+array-set-from-normalizers-2 c = search zneeds
+
+add-i : tie.Need-add-i Inv-loop μ-loop
+add-i c = search zneeds
+
+loop-less : tie.Need-loop-less Inv-loop μ-loop
+loop-less c = search zneeds
+
+loop-again : tie.Need-loop-again Inv-loop μ-loop
+unfolding sample
+loop-again c =
+    let d = c .before in
+    let s = d .before .before .before in
+    let a = s .before .before .before .args in
+    let w = a .frame-4khz .now in
+    let i = s .loop .i in
+    let b = s .loop .inv .1 .1 .0 in
+    let e = s .loop .inv .1 .1 .1 .0 in
+    let x = r-elem w16 _ (d .before .come .given) .val ∙ ap (λ (m : ℕ). sample w (m - i)) b in
+    let y = r-elem w16 _ (d .gone .given) .val ∙ ap (λ (m : ℕ). sample w (m - i + 40)) b in
+    let v = r-got w32 (c .slide .ok) (c .slide .ensures ∙ (λ t. wrap w32 (e t +ℤ (x t *ℤ x t -ℤ y t *ℤ y t))) ∙ norm-next w (a .h) i (omega arith) (omega arith)) .val in
+    let q : i ≡ i + 1 - 1 = omega arith in (
+      omega arith,
+      (omega arith, (b, (v ∙ ap (λ (m : ℕ). norm1 w (a .h) (8 + m)) q, filled-turn (λ (k : ℕ). norm1 w (a .h) (8 + k)) i (replicate 65 (pos 0)) (s .loop .inv .1 .1 .1 .1) v (omega arith)))),
+    )
+
+returns : tie.Need-returns Inv-loop μ-loop
+returns c =
+    let s = c .before in
+    let a = s .before .before .before .args in
+    let g : ℕ → ℤ = λ k. norm1 (a .frame-4khz .now) (a .h) (8 + k) in
+    let e : s .loop .i ≡ 65 = omega arith in
+    s .loop .inv .1 .1 .1 .1 ∙ ap (λ (m : ℕ). filled g m (replicate 65 (pos 0))) e ∙ filled-all g 65 (replicate 65 (pos 0)) (lit≤ tt)
+
+pub normalizers-spec : {M : Type 1} → statement M
+normalizers-spec =
+    tie.close
+    (tie.spec
+    Inv-loop
+    μ-loop
+    first-normalizer-requires
+    array-set-from-normalizers
+    target-requires
+    sub-basis
+    loop-holds
+    sub-come
+    mul-come
+    shared-slice-copy-out-come
+    sub-gone
+    add-gone
+    mul-gone
+    shared-slice-copy-out-gone
+    slide-requires
+    mul-normalizers
+    array-set-from-normalizers-2
+    add-i
+    loop-less
+    loop-again
+    returns)
