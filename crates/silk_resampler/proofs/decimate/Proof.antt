@@ -1,0 +1,103 @@
+-- `silk_resampler::decimate` meets its contract: `out` is filled below 2 m. Assumes nothing.
+use Prim.Native.Nat.{ℕ, _≤_, _-_, _+_, _*_}
+use mathlib.Core.Path.{_≡_, refl, ap, _∙_}
+use native.Mathlib.Omega.{arith}
+use lib.ListN.{length, length-set}
+use mir.Syntax.{w16}
+use Rattle.zint.specs.Read.{r-got}
+use Rattle.zint.specs.Rules.{zneeds}
+use Rattle.lists.specs.Fill.{filled, filled-none, filled-turn}
+use Rattle.lists.specs.Signal.{sample}
+use Rattle.silk_resampler.specs.Down23.{source-filter, decimated}
+use Rattle.silk_resampler.specs.Down23Laws.{decimated-even, decimated-odd}
+use Rattle.silk_resampler.proofs.decimate.Statement.{statement}
+use Rattle.silk_resampler.proofs.decimate.Tie as tie
+
+abbrev Inv-loop : tie.InvT-loop
+Inv-loop out₀ buf n m₀ out m = (m ≤ n) × ((length out ≡ length out₀) × (out ≡ filled (decimated source-filter (sample buf)) (2 * m) out₀))
+
+abbrev μ-loop : tie.MeasureT-loop
+μ-loop out₀ buf n m₀ out m = n - m
+
+loop-holds : tie.Need-loop-holds Inv-loop μ-loop
+loop-holds c = (omega arith, (refl, filled-none _ _))
+
+even-output-requires : tie.Need-even-output-requires Inv-loop μ-loop
+even-output-requires c κs = search zneeds
+
+odd-output-requires : tie.Need-odd-output-requires Inv-loop μ-loop
+odd-output-requires c κs = search zneeds
+
+mul-even : tie.Need-mul-even Inv-loop μ-loop
+mul-even c = search zneeds
+
+mul-even-2 : tie.Need-mul-even-2 Inv-loop μ-loop
+mul-even-2 c = search zneeds
+
+slice-set-from-even : tie.Need-slice-set-from-even Inv-loop μ-loop
+slice-set-from-even c = search zneeds
+
+mul-odd : tie.Need-mul-odd Inv-loop μ-loop
+mul-odd c = search zneeds
+
+add-odd : tie.Need-add-odd Inv-loop μ-loop
+add-odd c = search zneeds
+
+mul-odd-2 : tie.Need-mul-odd-2 Inv-loop μ-loop
+mul-odd-2 c = search zneeds
+
+slice-set-from-odd : tie.Need-slice-set-from-odd Inv-loop μ-loop
+slice-set-from-odd c = simp length-set (omega arith)
+
+add-m : tie.Need-add-m Inv-loop μ-loop
+add-m c = search zneeds
+
+loop-less : tie.Need-loop-less Inv-loop μ-loop
+loop-less c = search zneeds
+
+loop-again : tie.Need-loop-again Inv-loop μ-loop
+loop-again c =
+    let l = c .before .before .before in
+    let a = l .before .args in
+    let b = sample (a .buf .now) in
+    let f = decimated source-filter b in
+    let m = l .loop .m in
+    let i = l .loop .inv .1 in
+    let g : m + 1 ≤ a .n = omega arith in
+    let h : 2 * m + 1 + 1 ≡ 2 * (m + 1) = omega arith in
+    let e = r-got w16 (c .before .even-output .ok) (c .before .even-output .ensures) .val ∙ decimated-even source-filter b m in
+    let o = r-got w16 (c .odd-output .ok) (c .odd-output .ensures) .val ∙ decimated-odd source-filter b m in
+    let t = filled-turn f (2 * m) (a .out .now) (i .1) e (omega arith) in
+    (g, (simp length-set (i .0), filled-turn f (2 * m + 1) (a .out .now) t o (omega arith) ∙ ap (λ (k : ℕ). filled f k (a .out .now)) h))
+
+same-length : tie.Need-same-length Inv-loop μ-loop
+same-length c = search zneeds
+
+returns : tie.Need-returns Inv-loop μ-loop
+returns c =
+    let l = c .before in
+    let a = l .before .args in
+    let e : l .loop .m ≡ a .n = omega arith in
+    l .loop .inv .1 .1 ∙ ap (λ (k : ℕ). filled (decimated source-filter (sample (a .buf .now))) (2 * k) (a .out .now)) e
+
+pub decimate-spec : {M : Type 1} → statement M
+decimate-spec =
+    tie.close
+    (tie.spec
+    Inv-loop
+    μ-loop
+    loop-holds
+    even-output-requires
+    odd-output-requires
+    mul-even
+    mul-even-2
+    slice-set-from-even
+    mul-odd
+    add-odd
+    mul-odd-2
+    slice-set-from-odd
+    add-m
+    loop-less
+    loop-again
+    same-length
+    returns)

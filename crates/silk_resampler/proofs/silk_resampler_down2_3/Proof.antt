@@ -1,0 +1,153 @@
+-- `silk_resampler::silk_resampler_down2_3` meets its contract. Assumes nothing.
+use mathlib.Core.Path.{_≡_, sym, ap, _∙_}
+use mathlib.Core.List.{List}
+use Prim.Native.Nat.{ℕ, _+_, _-_, _<_}
+use native.Mathlib.Omega.{arith}
+use borrow.Rule.Slice.PartMut.{putMid, same-len-mid}
+use lib.IntN.{ℤ, pos, negsuc}
+use lib.ListN.{length, take, drop, replicate, length-replicate}
+use Rattle.zint.specs.Rules.{zneeds}
+use Rattle.lists.specs.Fill.{filled}
+use Rattle.lists.specs.Signal.{sample}
+use Rattle.silk_resampler.specs.Down23.{States, source-filter, ar2-states, filtered, states-of, with-states, buffer, down2-3-states}
+use Rattle.silk_resampler.specs.Down23Laws.{batch-at, batch-out, batch-states, states-part}
+use Rattle.silk_resampler.proofs.silk_resampler_down2_3.Statement.{statement}
+use Rattle.silk_resampler.proofs.silk_resampler_down2_3.Tie as tie
+
+-- the buffer after the recursion: its length, and what it holds
+module _ (c : tie.After-buf4) where
+  abbrev start : tie.Start
+  start = c .before .before .before .before .before .before .before .before .before .before
+
+  abbrev s : List ℤ
+  s = start .args .s .now
+
+  abbrev x : ℕ → ℤ
+  x = sample (start .args .input .now)
+
+  abbrev m : ℕ
+  m = start .args .in-len
+
+  abbrev held : List ℤ
+  held = c .before .before .before .before .before .before .before .copy-values .last .0
+
+  abbrev part : List ℤ
+  part = c .before .before .silk-resampler-private-ar2 .last .1 .0
+
+  abbrev buf : List ℤ
+  buf = putMid 4 (4 + m - 4) held part
+
+  buf-length : length buf ≡ 484
+  buf-length = same-len-mid 4 (4 + m - 4) held part (c .buf4 .given) ∙ c .before .before .before .before .before .before .before .copy-values .kept .0
+
+  buf-at : (k : ℕ) → k < 4 + m → sample buf k ≡ buffer source-filter s x k
+  unfolding buffer sample
+  buf-at =
+      batch-at (sample s) (filtered source-filter (negsuc 2796) (negsuc 6506) (states-of (drop 4 s)) x) m (replicate 484 (pos 0))
+      (simp length-replicate (omega (arith, start .pre)))
+      (c .before .before .before .before .before .before .before .copy-values .ensures)
+      (c .before .before .silk-resampler-private-ar2 .ensures .0 ∙ ap (λ (z : States). filled (filtered source-filter (negsuc 2796) (negsuc 6506) z x) m (take (4 + m - 4) (drop 4 held))) (states-part (drop 4 s)))
+
+slice-aggregate-copy-values : tie.Need-slice-aggregate-copy-values
+slice-aggregate-copy-values c = search zneeds
+
+copy-values-requires : tie.Need-copy-values-requires
+copy-values-requires c κs = search zneeds
+
+add-silk-resampler-private-ar2 : tie.Need-add-silk-resampler-private-ar2
+add-silk-resampler-private-ar2 c = search zneeds
+
+sub-silk-resampler-private-ar2 : tie.Need-sub-silk-resampler-private-ar2
+sub-silk-resampler-private-ar2 c = search zneeds
+
+part-silk-resampler-private-ar2-start : tie.Need-part-silk-resampler-private-ar2-start
+part-silk-resampler-private-ar2-start c = search zneeds
+
+part-silk-resampler-private-ar2-end : tie.Need-part-silk-resampler-private-ar2-end
+part-silk-resampler-private-ar2-end c = search zneeds
+
+add-silk-resampler-private-ar2-2 : tie.Need-add-silk-resampler-private-ar2-2
+add-silk-resampler-private-ar2-2 c = search zneeds
+
+sub-silk-resampler-private-ar2-2 : tie.Need-sub-silk-resampler-private-ar2-2
+sub-silk-resampler-private-ar2-2 c = search zneeds
+
+part-buf-start : tie.Need-part-buf-start
+part-buf-start c = search zneeds
+
+part-buf-end : tie.Need-part-buf-end
+part-buf-end c = search zneeds
+
+slice-aggregate-silk-resampler-private-ar2 : tie.Need-slice-aggregate-silk-resampler-private-ar2
+slice-aggregate-silk-resampler-private-ar2 c = search zneeds
+
+silk-resampler-private-ar2-requires : tie.Need-silk-resampler-private-ar2-requires
+silk-resampler-private-ar2-requires c κs = search zneeds
+
+slice-aggregate-decimate : tie.Need-slice-aggregate-decimate
+slice-aggregate-decimate c = sym (buf-length (c .before .before))
+
+decimate-requires : tie.Need-decimate-requires
+decimate-requires c κs = let e = buf-length (c .before .before) in omega (arith, c .before .before .before .before .before .before .before .before .before .before .before .before .pre)
+
+mul-copy-values : tie.Need-mul-copy-values
+mul-copy-values c = search zneeds
+
+sub-copy-values : tie.Need-sub-copy-values
+sub-copy-values c = search zneeds
+
+part-copy-values-start : tie.Need-part-copy-values-start
+part-copy-values-start c = search zneeds
+
+part-copy-values-end : tie.Need-part-copy-values-end
+part-copy-values-end c = let e = buf-length (c .before .before .before .before .before .before) in omega arith
+
+copy-values-requires-2 : tie.Need-copy-values-requires-2
+copy-values-requires-2 c κs = search zneeds
+
+same-length : tie.Need-same-length
+same-length c = search zneeds
+
+same-length-2 : tie.Need-same-length-2
+same-length-2 c = search zneeds
+
+returns : tie.Need-returns
+unfolding down2-3-states sample
+returns c =
+    let d = c .before .before .before .before .before .before .before .before .before in
+    let b = buf d in
+    let l = drop 4 (s d) in
+    let e : c .before .copy-values2 .last .0 ≡ filled (sample (take (484 - m d) (drop (m d) b))) 4 (putMid 4 2 (s d) (d .before .before .silk-resampler-private-ar2 .last .0)) = c .before .copy-values2 .ensures in
+    let a = ar2-states source-filter (negsuc 2796) (negsuc 6506) (states-of l) (x d) (m d) in
+    let f : d .before .before .silk-resampler-private-ar2 .last .0 ≡ with-states a (take 2 l) =
+    d .before .before .silk-resampler-private-ar2 .ensures .1 ∙ ap (λ (z : States). with-states (ar2-states source-filter (negsuc 2796) (negsuc 6506) z (x d) (m d)) (take 2 l)) (states-part l) in (
+      c .before .before .before .before .before .before .decimate .ensures ∙ batch-out source-filter (s d) (x d) (m d) b (buf-at d) (start d .args .out .now),
+      e ∙ ap (λ (t : List ℤ). filled (sample (take (484 - m d) (drop (m d) b))) 4 (putMid 4 2 (s d) t)) f ∙ batch-states source-filter (s d) (x d) (m d) b (buf-at d) (484 - m d) a (omega (arith, start d .pre)) (omega (arith, start d .pre)),
+    )
+
+pub silk-resampler-down2-3-spec : {M : Type 1} → statement M
+silk-resampler-down2-3-spec =
+    tie.close
+    (tie.spec
+    slice-aggregate-copy-values
+    copy-values-requires
+    add-silk-resampler-private-ar2
+    sub-silk-resampler-private-ar2
+    part-silk-resampler-private-ar2-start
+    part-silk-resampler-private-ar2-end
+    add-silk-resampler-private-ar2-2
+    sub-silk-resampler-private-ar2-2
+    part-buf-start
+    part-buf-end
+    slice-aggregate-silk-resampler-private-ar2
+    silk-resampler-private-ar2-requires
+    slice-aggregate-decimate
+    decimate-requires
+    mul-copy-values
+    sub-copy-values
+    part-copy-values-start
+    part-copy-values-end
+    copy-values-requires-2
+    same-length
+    same-length-2
+    returns)
