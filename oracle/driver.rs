@@ -1,0 +1,65 @@
+//! The driver over the original Rust: answers requests and writes the fixed
+//! lists. The analyser itself is the modules under `silk`, copied and cut by
+//! cut.py; nothing of it stands here.
+
+mod frame;
+mod kinds;
+mod leaves;
+mod list;
+mod probe;
+mod random;
+mod sheet;
+mod signals;
+#[allow(warnings)]
+mod silk;
+mod track;
+
+use std::io::{Read, Write};
+
+fn input() -> Vec<u8> {
+    let mut bytes = Vec::new();
+    std::io::stdin().lock().read_to_end(&mut bytes).expect("standard input");
+    bytes
+}
+
+fn output(bytes: &[u8]) {
+    let mut out = std::io::stdout().lock();
+    out.write_all(bytes).expect("standard output");
+    out.flush().expect("standard output");
+}
+
+fn number(text: &str) -> u64 {
+    text.parse().unwrap_or_else(|_| {
+        eprintln!("not a number: {text}");
+        std::process::exit(2);
+    })
+}
+
+fn main() {
+    frame::quiet_zero_divisors();
+    let args: Vec<String> = std::env::args().skip(1).collect();
+    let words: Vec<&str> = args.iter().map(|s| s.as_str()).collect();
+    match words[..] {
+        ["words"] => output(&leaves::words()),
+        ["sort"] => output(&leaves::sort()),
+        ["resampler"] => output(&leaves::resampler()),
+        ["sigproc"] => output(&leaves::sigproc()),
+        ["lags"] => output(&leaves::lags()),
+        ["frames_list"] => output(&list::frames_list()),
+        ["gen_frames", n, seed] => output(&kinds::gen_frames(number(n) as usize, number(seed))),
+        ["gen_tracks", n, seed] => output(&track::gen_tracks(number(n) as usize, number(seed))),
+        ["gen_sheets", n, seed] => output(&sheet::gen_sheets(number(n) as usize, number(seed))),
+        ["track"] => output(track::track(&input()).as_bytes()),
+        ["sheet_write"] => output(&sheet::sheet_write(&input())),
+        ["sheet_read"] => output(sheet::sheet_read(&input()).as_bytes()),
+        ["frames"] => output(frame::frames(&input()).as_bytes()),
+        _ => {
+            eprintln!(
+                "use: driver words | sort | resampler | sigproc | lags | frames_list\n     \
+                 driver frames | track | sheet_write | sheet_read\n     \
+                 driver gen_frames N SEED | gen_tracks N SEED | gen_sheets N SEED"
+            );
+            std::process::exit(2);
+        }
+    }
+}

@@ -1,0 +1,184 @@
+//! Document 01's track and the program `track`, over the original analyser,
+//! and inputs for it.
+
+use crate::frame::{Frame, Row, Settings, analyse, le16s, le32, row_text};
+use crate::kinds::{all_settings, zero_known};
+use crate::random::Random;
+use crate::signals;
+
+const HEAD: usize = 11;
+const MOST_FRAMES: usize = 1024;
+
+/// F(n): the frames in n samples.
+pub fn frames_in(s: &Settings, n: usize) -> usize {
+    if n < s.samples() { 0 } else { 1 + (n - s.samples()) / s.hop() }
+}
+
+/// The rows of a whole track: each frame is given the last row's lag of its
+/// last subframe and its correlation, 0 and 0 at first.
+pub fn rows(s: &Settings, x: &[i16]) -> Vec<Row> {
+    let (mut prev_lag, mut prev_corr) = (0, 0);
+    let mut all = Vec::new();
+    for i in 0..frames_in(s, x.len()) {
+        let at = i * s.hop();
+        let x = x[at..at + s.samples()].to_vec();
+        let row = analyse(&Frame { settings: *s, prev_lag, prev_corr, x });
+        prev_lag = row[4 + s.nb - 1];
+        prev_corr = row[3];
+        all.push(row);
+    }
+    all
+}
+
+/// The program's input: settings and samples, or the number it is refused with.
+pub fn read(b: &[u8]) -> Result<(Settings, Vec<i16>), u32> {
+    if b.len() < HEAD || (b.len() - HEAD) % 2 == 1 {
+        return Err(10);
+    }
+    if let Some(no) = Settings::refusal(b[0] as u32, b[1] as u32, b[2] as u32) {
+        return Err(no);
+    }
+    let settings = Settings {
+        rate: b[0] as usize,
+        nb: b[1] as usize,
+        complexity: b[2] as usize,
+        thres1: le32(&b[3..]),
+        thres2: le32(&b[7..]),
+    };
+    let x = le16s(&b[HEAD..]);
+    if frames_in(&settings, x.len()) > MOST_FRAMES {
+        return Err(6);
+    }
+    Ok((settings, x))
+}
+
+pub fn refused(no: u32) -> String {
+    format!("refused {no}\n")
+}
+
+pub fn rows_text(rows: &[Row], nb: usize) -> String {
+    rows.iter().enumerate().map(|(i, row)| format!("{i} {}\n", row_text(row, nb))).collect()
+}
+
+/// The program `track`.
+pub fn track(b: &[u8]) -> String {
+    match read(b) {
+        Err(no) => refused(no),
+        Ok((s, x)) => {
+            let rows = rows(&s, &x);
+            let left = match rows.len() {
+                0 => x.len(),
+                n => x.len() - ((n - 1) * s.hop() + s.samples()),
+            };
+            format!("{} {left}\n{}", rows.len(), rows_text(&rows, s.nb))
+        }
+    }
+}
+
+fn write(s: &Settings, x: &[i16]) -> Vec<u8> {
+    let mut out = vec![s.rate as u8, s.nb as u8, s.complexity as u8];
+    out.extend(s.thres1.to_le_bytes());
+    out.extend(s.thres2.to_le_bytes());
+    x.iter().for_each(|v| out.extend(v.to_le_bytes()));
+    out
+}
+
+/// Samples of a recording: pieces of any shape, voiced ones mostly.
+fn recording(s: &Settings, n: usize, r: &mut Random) -> Vec<i16> {
+    let mut x: Vec<i16> = Vec::new();
+    while x.len() < n {
+        let piece = 1 + r.below(4 * s.samples());
+        let lag = r.between(2 * s.rate as i64, 18 * s.rate as i64);
+        let bits = 6 + r.below(11) as u32;
+        x.extend(match r.below(6) {
+            0 => signals::any(piece, s.rate, r),
+            1 => {
+                let to = lag + r.between(-20, 20);
+                signals::glide(piece, lag, to, bits, r)
+            }
+            2 => signals::repeated(piece, lag as usize, bits, r),
+            3 => vec![signals::any_height(r); piece],
+            _ => signals::voice(piece, lag as usize, r),
+        });
+    }
+    x.truncate(n);
+    x
+}
+
+/// One random input of the program, refused ones among them.
+fn random_track(r: &mut Random) -> Vec<u8> {
+    let mut s = r.pick(&all_settings());
+    s.thres1 = r.between(20000, 60000) as i32;
+    s.thres2 = r.between(0, 3000) as i32;
+    if r.chance(3) {
+        s.thres1 = r.pick(&[0, 52429, -1, 65535, 65536, i32::MAX, i32::MIN]);
+        s.thres2 = r.pick(&[0, 500, 6000, -1000, 40000, i32::MAX, i32::MIN]);
+    }
+    let (n, hop) = (s.samples(), s.hop());
+    match r.below(40) {
+        0 => (0..r.below(11)).map(|_| r.word() as u8).collect(),
+        1 => {
+            let mut b = write(&s, &recording(&s, r.below(1000), r));
+            b.push(r.word() as u8);
+            b
+        }
+        2 => {
+            let mut b = write(&s, &recording(&s, r.below(1000), r));
+            b[r.below(3)] = r.word() as u8;
+            b[r.below(3)] = r.pick(&[0, 1, 2, 3, 4, 8, 12, 16, 24, 255]);
+            b
+        }
+        3 => {
+            // at and past the program's greatest count
+            let quick = Settings { rate: 8, nb: 2, ..s };
+            let most = quick.samples() + 1023 * quick.hop();
+            let more = r.pick(&[0, 1, quick.hop() - 1, quick.hop(), quick.hop() + 1]);
+            write(&quick, &recording(&quick, most + more, r))
+        }
+        4..10 => {
+            let edge = n + r.below(4) * hop;
+            let len = (edge as i64 + r.between(-2, 2)) as usize;
+            write(&s, &recording(&s, len, r))
+        }
+        10 => write(&s, &recording(&s, r.below(n), r)),
+        11..14 => {
+            // a frame with a zero divisor somewhere in a track at 12 kHz
+            let s = Settings { rate: 12, ..s };
+            let at = r.below(6) * s.hop();
+            let mut x = recording(&s, at + s.samples() + r.below(4 * s.hop()), r);
+            x[at..at + s.samples()].copy_from_slice(&zero_known(s).x);
+            write(&s, &x)
+        }
+        14..17 => {
+            // loud and low at 12 kHz, where correlations can be 32768 or negative
+            let s = Settings { rate: 12, thres2: s.thres2.min(0), ..s };
+            let len = s.samples() + r.below(12 * s.hop());
+            let x = match r.below(3) {
+                0 => vec![signals::clip(r.between(-3000, 3000)); len],
+                1 => signals::tone(len, r.between(500, 9000), r.between(300, 4000), 0),
+                _ => signals::low_noise(len, 14, 30, r),
+            };
+            write(&s, &x)
+        }
+        17 => {
+            let len = n + r.below(150 * hop);
+            write(&s, &recording(&s, len, r))
+        }
+        _ => {
+            let len = n + r.below(16 * hop);
+            write(&s, &recording(&s, len, r))
+        }
+    }
+}
+
+/// N random inputs, each after its length (4 bytes).
+pub fn gen_tracks(n: usize, seed: u64) -> Vec<u8> {
+    let mut r = Random::new(seed ^ 0x7472_6163_6b73);
+    let mut out = Vec::new();
+    for _ in 0..n {
+        let b = random_track(&mut r);
+        out.extend((b.len() as u32).to_le_bytes());
+        out.extend(b);
+    }
+    out
+}
