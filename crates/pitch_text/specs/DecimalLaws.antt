@@ -1,0 +1,67 @@
+-- Laws of decimal numbers: the last digit, how many digits there are, and text that is written in parts.
+-- Assumes nothing.
+use mathlib.Core.Path.{_≡_, refl, sym, ap, ap₂, _∙_, subst}
+use mathlib.Core.Bool.{Bool, cond}
+use mathlib.Core.List.{List, [], _∷_, _++_}
+use mathlib.Core.Logic.{_⊎_, ⊎-elim}
+use Prim.Native.Nat.{ℕ, zero, suc, _+_, _*_, _/_, _%_, _^_, _≤_, _<_}
+use native.Mathlib.Decide.{decLt}
+use native.Mathlib.Nat.{add-zero}
+use native.Mathlib.Omega.{arith}
+use borrow.Author.Tests.{lt-ltb, le-ltb}
+use lib.Dec.{ltb}
+use lib.ListN.{length, set, length-append}
+use lib.Seq.{sets}
+use Rattle.pitch_text.specs.Decimal.{digits-to, digits}
+
+-- more room changes nothing
+room : (k m n : ℕ) → n < k → k ≤ m → digits-to m n ≡ digits-to k n
+unfolding digits-to
+room zero m n h l = absurd (omega arith)
+room (suc k) zero n h l = absurd (omega arith)
+room (suc k) (suc m) n h l = by (λ (g : 10 ≤ n). room k m (n / 10) (omega arith) (omega arith)) (decLt n 10)
+  where
+    by : (10 ≤ n → digits-to m (n / 10) ≡ digits-to k (n / 10)) → Dec (n < 10) → cond (ltb n 10) ((48 + n) ∷ []) (digits-to m (n / 10) ++ ((48 + n % 10) ∷ [])) ≡ cond (ltb n 10) ((48 + n) ∷ []) (digits-to k (n / 10) ++ ((48 + n % 10) ∷ []))
+    by rec (yes p) = rw lt-ltb
+    by rec (no p) = rw (rec (omega arith))
+
+pub digits-one : (n : ℕ) → n < 10 → digits n ≡ (48 + n) ∷ []
+unfolding digits digits-to
+digits-one n h = rw lt-ltb
+
+pub digits-more : (n : ℕ) → 10 ≤ n → digits n ≡ digits (n / 10) ++ ((48 + n % 10) ∷ [])
+unfolding digits digits-to
+digits-more n h = rw le-ltb (ap (λ (l : List ℕ). l ++ ((48 + n % 10) ∷ [])) (room (suc (n / 10)) n (n / 10) (omega arith) (omega arith)))
+
+pub length-one : (n : ℕ) → n < 10 → length (digits n) ≡ 1
+length-one n h = rw (digits-one n h)
+
+pub length-more : (n : ℕ) → 10 ≤ n → length (digits n) ≡ length (digits (n / 10)) + 1
+length-more n h = rw (digits-more n h) (length-append (digits (n / 10)) ((48 + n % 10) ∷ []))
+
+module _ {A : Type 0} where
+  -- text that is written in two parts
+  pub sets-append : (l : List A) (i : ℕ) (a b : List A) → sets (sets l i a) (i + length a) b ≡ sets l i (a ++ b)
+  sets-append l i [] b = ap (λ (k : ℕ). sets l k b) (add-zero i)
+  sets-append l i (x ∷ a) b =
+      let e : i + length (x ∷ a) ≡ suc i + length a = omega arith in
+      ap (λ (k : ℕ). sets (sets (set l i x) (suc i) a) k b) e ∙ sets-append (set l i x) (suc i) a b
+
+-- a number below ten to the k has at most k digits
+pub digits-few : (k n : ℕ) → n < 10 ^ suc k → length (digits n) ≤ suc k
+digits-few zero n h = rw (digits-one n (omega arith)) (omega arith)
+digits-few (suc k) n h = by (digits-few k (n / 10) (omega arith)) (decLt n 10)
+  where
+    by : length (digits (n / 10)) ≤ suc k → Dec (n < 10) → length (digits n) ≤ suc (suc k)
+    by l (yes p) = rw (digits-one n p) (omega arith)
+    by l (no p) = rw (digits-more n (omega arith), length-append (digits (n / 10)) ((48 + n % 10) ∷ [])) (omega arith)
+
+-- the digits of such a number, counted from k: a number's digits by computation
+pub digits-short : (k n : ℕ) → n < 10 ^ suc k → digits n ≡ digits-to (suc k) n
+unfolding digits-to
+digits-short zero n h = rw (digits-one n (omega arith), lt-ltb)
+digits-short (suc k) n h = by (digits-short k (n / 10) (omega arith)) (decLt n 10)
+  where
+    by : digits (n / 10) ≡ digits-to (suc k) (n / 10) → Dec (n < 10) → digits n ≡ cond (ltb n 10) ((48 + n) ∷ []) (digits-to (suc k) (n / 10) ++ ((48 + n % 10) ∷ []))
+    by e (yes p) = rw (digits-one n p, lt-ltb)
+    by e (no p) = let q : 10 ≤ n = omega arith in rw (digits-more n q, le-ltb) (ap (λ (l : List ℕ). l ++ ((48 + n % 10) ∷ [])) e)

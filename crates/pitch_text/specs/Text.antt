@@ -1,0 +1,41 @@
+-- Lines of text as bytes: fields of numbers, a row's line, a refusal's (document 01, "Program"). Definitions only.
+use mathlib.Core.Path.{_≡_}
+use mathlib.Core.Bool.{cond}
+use mathlib.Core.List.{List, [], _∷_, _++_}
+use Prim.Native.Nat.{ℕ, _+_}
+use lib.IntN.{ℤ, pos}
+use lib.ListN.{length, take}
+use lib.Seq.{sets}
+use Rattle.zint.specs.Equal.{eqZ}
+use Rattle.pitch_table.specs.declared.Row.{Row}
+use Rattle.pitch_text.specs.Decimal.{digits, decimal}
+
+-- the text is written over the buffer from `at` on, and `end` is the place after it
+pub record Put (buffer : List ℕ) (at : ℕ) (text : List ℕ) (end : ℕ) (after : List ℕ) : Type 0 where
+  pub ends : end ≡ at + length text
+  pub holds : after ≡ sets buffer at text
+
+-- each number after a space
+unfoldable pub fields : List ℤ → List ℕ
+fields [] = []
+fields (z ∷ zs) = (32 ∷ decimal z) ++ fields zs
+
+-- V, U or Z for the verdicts 0, 1, 2
+unfoldable pub letter-of : ℤ → ℕ
+letter-of v = cond (eqZ v (pos 0)) 86 (cond (eqZ v (pos 1)) 85 90)
+
+-- a row's numbers after its verdict
+unfoldable pub values-of : Row → List ℤ
+values-of r = r .index ∷ r .contour ∷ r .correlation ∷ r .lag0 ∷ r .lag1 ∷ r .lag2 ∷ r .lag3 ∷ []
+
+-- a row as a line: the letter, lag index, contour, correlation, and the lags of nb subframes
+unfoldable pub row-text : ℕ → Row → List ℕ
+row-text nb r = letter-of (r .verdict) ∷ (fields (take (3 + nb) (values-of r)) ++ (10 ∷ []))
+
+-- a frame's line: its number, then its row
+unfoldable pub line-text : ℕ → ℕ → Row → List ℕ
+line-text i nb r = digits i ++ (32 ∷ row-text nb r)
+
+-- `refused` and the number
+unfoldable pub refused-text : ℕ → List ℕ
+refused-text n = 114 ∷ 101 ∷ 102 ∷ 117 ∷ 115 ∷ 101 ∷ 100 ∷ 32 ∷ (digits n ++ (10 ∷ []))
