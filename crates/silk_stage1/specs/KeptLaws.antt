@@ -1,7 +1,7 @@
 -- Laws of stage 1's choice of the lags that go on, and what the functions that choose them say to one another.
 -- Assumes nothing.
 use mathlib.Core.Path.{_≡_, refl, sym, ap, ap₂, _∙_, subst}
-use mathlib.Core.Bool.{Bool, true, false, cond}
+use mathlib.Core.Bool.{Bool, true, false, cond, false≢true}
 use mathlib.Core.List.{List}
 use Prim.Native.Nat.{ℕ, zero, suc, _+_, _≤_, _<_}
 use native.Mathlib.Omega.{arith}
@@ -13,7 +13,7 @@ use lib.Seq.{take-all}
 use lib.Signed.{ltZ, leZ, _≤ℤ_, _<ℤ_}
 use Rattle.zint.specs.Order.{le-yes, le-no}
 use Rattle.lists.specs.Signal.{sample}
-use Rattle.lists.specs.Fill.{filled, filled-ext, getD-filled, length-filled, length-table}
+use Rattle.lists.specs.Fill.{filled, filled-ext, getD-filled, getD-table, length-filled, length-table}
 use Rattle.best.specs.Best.{Place, at, firstFrom}
 use Rattle.silk_macros.specs.Macros.{smulwb}
 use Rattle.silk_stage1.specs.declared.Screen.the-variants.{ZeroDivisor, Unvoiced, Goes}
@@ -37,43 +37,52 @@ selected c d k thres1 =
       count = run c k (smulwb thres1 (sample c 0));
     })
 
--- the first of i, i + 1, .., i + k - 1 that passes is p, or none does and p is i + k
-before-is : (i k : ℕ) (t : ℕ → Bool) (p : ℕ) → i ≤ p → p ≤ i + k → ((q : ℕ) → i ≤ q → q < p → t q ≡ false) → (p < i + k → t p ≡ true) → before (i + k) (firstFrom i k t) ≡ p
+-- p is the first number from i up to e that passes the test, or e where none does
+pub record First (i e : ℕ) (t : ℕ → Bool) (p : ℕ) : Type 0 where
+  pub from : i ≤ p
+  pub within : p ≤ e
+  pub none-before : (q : ℕ) → i ≤ q → q < p → t q ≡ false
+  pub passes : p < e → t p ≡ true
+
+first-of : (i k : ℕ) (t : ℕ → Bool) → First i (i + k) t (before (i + k) (firstFrom i k t))
 unfolding before firstFrom
-before-is i zero t p l u f e = omega arith
-before-is i (suc k) t p l u f e = by (decLt i p) (λ h. before-is (suc i) k t p (omega arith) (omega arith) (λ q a b. f q (omega arith) b) (λ a. e (omega arith)))
+first-of i zero t = record { from = omega arith; within = omega arith; none-before = λ q l u. absurd (omega arith); passes = λ l. absurd (omega arith) }
+first-of i (suc k) t = by (t i) refl (first-of (suc i) k t)
   where
-    by : Dec (i < p) → (i < p → before (suc i + k) (firstFrom (suc i) k t) ≡ p) → before (i + suc k) (cond (t i) (at i) (firstFrom (suc i) k t)) ≡ p
-    by (yes h) rec =
-        let m : i + suc k ≡ suc i + k = omega arith in
-        ap₂ (λ (b : Bool) (x : ℕ). before x (cond b (at i) (firstFrom (suc i) k t))) (f i (omega arith) h) m ∙ rec h
-    by (no h) rec =
-        let m : p ≡ i = omega arith in
-        ap (λ (b : Bool). before (i + suc k) (cond b (at i) (firstFrom (suc i) k t))) (ap t (sym m) ∙ e (omega arith)) ∙ sym m
+    by : (b : Bool) → t i ≡ b → First (suc i) (suc i + k) t (before (suc i + k) (firstFrom (suc i) k t)) → First i (i + suc k) t (before (i + suc k) (cond b (at i) (firstFrom (suc i) k t)))
+    by true e r = record { from = omega arith; within = omega arith; none-before = λ q l u. absurd (omega arith); passes = λ l. e }
+    by false e r =
+        let m : suc i + k ≡ i + suc k = omega arith in
+        let r′ = subst (λ (x : ℕ). First (suc i) x t (before x (firstFrom (suc i) k t))) m r in
+        record { from = omega (arith, r′ .from); within = r′ .within; none-before = λ q l u. or-first q (decLt i q) l (λ h. r′ .none-before q h u); passes = r′ .passes }
+      where
+        or-first : (q : ℕ) → Dec (i < q) → i ≤ q → (i < q → t q ≡ false) → t q ≡ false
+        or-first q (yes h) l rec = rec h
+        or-first q (no h) l rec = let z : q ≡ i = omega arith in ap t z ∙ e
+
+pub first-is : (k : ℕ) (t : ℕ → Bool) → First 0 k t (before k (firstFrom 0 k t))
+first-is k t = let z : 0 + k ≡ k = omega arith in subst (λ (x : ℕ). First 0 x t (before x (firstFrom 0 k t))) z (first-of 0 k t)
+
+-- there is only one
+not-later : {i e : ℕ} {t : ℕ → Bool} {p q : ℕ} → First i e t p → First i e t q → p < q → ⊥
+not-later {p} {q} f g l = false≢true (sym (g .none-before p (f .from) l) ∙ f .passes (omega (arith, g .within)))
+
+pub first-only : {i e : ℕ} {t : ℕ → Bool} {p q : ℕ} → First i e t p → First i e t q → p ≡ q
+first-only {p} {q} f g = by (decLt p q) (decLt q p)
+  where
+    by : Dec (p < q) → Dec (q < p) → p ≡ q
+    by (yes l) m = absurd (not-later f g l)
+    by (no l) (yes m) = absurd (not-later g f m)
+    by (no l) (no m) = omega arith
 
 pub run-is : (c : List ℤ) (k : ℕ) (threshold : ℤ) (p : ℕ) → p ≤ k → ((q : ℕ) → q < p → threshold <ℤ sample c q) → (p < k → sample c p ≤ℤ threshold) → p ≡ run c k threshold
 unfolding run
 run-is c k threshold p l f e =
-    let t : ℕ → Bool = λ r. leZ (sample c r) threshold in
-    let z : 0 + k ≡ k = omega arith in
-    sym (ap (λ (m : ℕ). before m (firstFrom 0 k t)) (sym z) ∙ before-is 0 k t p (omega arith) (omega arith) (λ q a b. le-no (f q b)) (λ a. le-yes (e (omega arith))))
-
-before-le : (i k : ℕ) (t : ℕ → Bool) → before (i + k) (firstFrom i k t) ≤ i + k
-unfolding before firstFrom
-before-le i zero t = omega arith
-before-le i (suc k) t = by (t i) (before-le (suc i) k t)
-  where
-    by : (b : Bool) → before (suc i + k) (firstFrom (suc i) k t) ≤ suc i + k → before (i + suc k) (cond b (at i) (firstFrom (suc i) k t)) ≤ i + suc k
-    by true rec = omega arith
-    by false rec =
-        let m : i + suc k ≡ suc i + k = omega arith in
-        subst (λ (x : ℕ). before x (firstFrom (suc i) k t) ≤ x) (sym m) rec
+    first-only (record { from = omega arith; within = l; none-before = λ q a b. le-no (f q b); passes = λ a. le-yes (e a) }) (first-is k (λ r. leZ (sample c r) threshold))
 
 pub run-le : (c : List ℤ) (k : ℕ) (threshold : ℤ) → run c k threshold ≤ k
 unfolding run
-run-le c k threshold =
-    let z : 0 + k ≡ k = omega arith in
-    subst (λ (x : ℕ). before x (firstFrom 0 k (λ r. leZ (sample c r) threshold)) ≤ x) z (before-le 0 k (λ r. leZ (sample c r) threshold))
+run-le c k threshold = first-is k (λ r. leZ (sample c r) threshold) .within
 
 -- the two answers
 module _ (c : List ℤ) (d : List ℕ) (k : ℕ) (thres1 : ℤ) where
@@ -97,6 +106,15 @@ module _ (c : List ℤ) (d : List ℕ) (k : ℕ) (thres1 : ℤ) where
 
 -- ---- the answer, from the arrays that the sort leaves
 
+-- at least one place is looked at, and at most eight
+pub looked-some : (cx : ℕ) → 0 < looked cx
+unfolding looked
+looked-some cx = omega arith
+
+pub looked-few : {cx : ℕ} → cx < 3 → looked cx ≤ 8
+unfolding looked
+looked-few small = omega arith
+
 -- tests that agree have the same first number
 first-ext : (i k : ℕ) (t u : ℕ → Bool) → ((q : ℕ) → i ≤ q → q < i + k → t q ≡ u q) → firstFrom i k t ≡ firstFrom i k u
 unfolding firstFrom
@@ -107,6 +125,10 @@ first-ext i (suc k) t u h =
 pub length-scores : (f : List ℤ) (nb : ℕ) → length (scores1 f nb) ≡ 65
 unfolding scores1
 length-scores f nb = length-table (λ i. score1 f nb (8 + i)) 65
+
+pub score-of : (f : List ℤ) (nb i : ℕ) → i < 65 → sample (scores1 f nb) i ≡ score1 f nb (8 + i)
+unfolding scores1 sample
+score-of f nb i h = getD-table (λ k. score1 f nb (8 + k)) 65 i (pos 0) h
 
 pub stage1-zero : (f : List ℤ) (nb cx : ℕ) (thres1 : ℤ) → zero1 f nb ≡ true → stopped ZeroDivisor ≡ stage1 f nb cx thres1
 unfolding stage1

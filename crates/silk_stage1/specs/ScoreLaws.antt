@@ -27,7 +27,7 @@ use Rattle.silk_macros.specs.Macros.{smulbb}
 use Rattle.silk_macros.specs.Divide.{quotient}
 use Rattle.silk_macros.specs.declared.Quotient.{Quotient}
 use Rattle.silk_macros.specs.declared.Quotient.the-variants.{Value, ZeroDivisor as ByZero}
-use Rattle.silk_stage1.specs.Stage1.{target1, cross1, norm1, quotient1, by-zero, zero-in, zero1, low-of, corr1, sum1, biased1, score1, Handed1}
+use Rattle.silk_stage1.specs.Stage1.{target1, cross1, norm1, quotient1, by-zero, zero-in, zero1, low-of, corr1, sum1, biased1, score1}
 
 -- ---- what the functions say to one another: a loop that stops at a zero divisor has filled its array only where it has met none
 
@@ -149,8 +149,8 @@ module _ (f : List ℤ) (h : ℕ) where
 -- ---- the scores
 
 -- there is one half-frame or there are two, within the signal
-pub first-fits : {f : List ℤ} {nb cx : ℕ} → Handed1 f nb cx → 120 ≤ length f
-first-fits {f} {nb} r = ⊎-elim (λ (e : nb ≡ 2). omega (arith, r .long)) (λ (e : nb ≡ 4). omega (arith, r .long)) (r .subframes)
+pub first-fits : {nb : ℕ} (f : List ℤ) → (nb ≡ 2) ⊎ (nb ≡ 4) → (20 + 5 * nb) * 4 ≤ length f → 120 ≤ length f
+first-fits {nb} f s l = ⊎-elim (λ (e : nb ≡ 2). omega arith) (λ (e : nb ≡ 4). omega arith) s
 
 pub one-or-two : {nb : ℕ} → (nb ≡ 2) ⊎ (nb ≡ 4) → (nb ≡ 4 → ⊥) → nb ≡ 2
 one-or-two s g = ⊎-elim (λ e. e) (λ e. absurd (g e)) s

@@ -1,6 +1,6 @@
 // Stage 1 of the pitch analyser: the lags at 4 kHz that go on to stage 2.
 ghost use mathlib.Core.Path.{_≡_};
-ghost use mathlib.Core.Bool.{false};
+ghost use mathlib.Core.Logic.{_⊎_};
 ghost use Prim.Native.Nat.{ℕ, _+_, _-_, _*_, _<_, _≤_};
 ghost use lib.IntN.{_+ℤ_, _-ℤ_, _*ℤ_};
 ghost use lib.ListN.{length, getD, drop, replicate};
@@ -9,7 +9,7 @@ ghost use Rattle.zint.specs.Wrap.{wrap};
 ghost use Rattle.lists.specs.Signal.{sample};
 ghost use Rattle.lists.specs.Fill.{table, filled};
 ghost use Rattle.silk_sigproc.specs.Dot.{dot};
-ghost use Rattle.silk_stage1.specs.Stage1.{cross1, norm1, biased1, stopped, stage1, Handed1};
+ghost use Rattle.silk_stage1.specs.Stage1.{cross1, norm1, biased1, looked, stopped, stage1, Handed1};
 ghost use Rattle.silk_stage1.specs.ScoreLaws.{Divided, HalfFrame, Scored};
 ghost use Rattle.silk_stage1.specs.KeptLaws.{run, selected};
 use silk_macros::Quotient;
@@ -170,7 +170,7 @@ fn combine(first: &[i16], second: &[i16], c_combined: &mut [i16])
 
 // The scores of all lags; answers whether a divisor is zero.
 fn scores(frame_4khz: &[i16], nb_subfr: usize, c_combined: &mut [i16]) -> bool
-    requires { ⌜ Handed1 (now «frame_4khz») «nb_subfr» 0 × (65 ≤ length (now «c_combined»)) ⌝ }
+    requires { ⌜ ((«nb_subfr» ≡ 2) ⊎ («nb_subfr» ≡ 4)) × (((20 + 5 * «nb_subfr») * 4 ≤ length (now «frame_4khz»)) × (65 ≤ length (now «c_combined»))) ⌝ }
     ensures { λ r. ⌜ Scored (now («frame_4khz» .entry)) «nb_subfr» (now («c_combined» .entry)) (now («c_combined» .exit)) r ⌝ }
 {
     let mut first = [0i16; CSTRIDE_4KHZ];
@@ -187,6 +187,14 @@ fn scores(frame_4khz: &[i16], nb_subfr: usize, c_combined: &mut [i16]) -> bool
     }
     combine(&first, &second, c_combined);
     false
+}
+
+// How many places of the ranking are looked at.
+fn looked_at(complexity: usize) -> usize
+    requires { ⌜ complexity < 3 ⌝ }
+    ensures { λ r. ⌜ r ≡ looked complexity ⌝ }
+{
+    (complexity << 1) + 4
 }
 
 // How many of the first n scores lie, from the front on, above the threshold.
@@ -259,7 +267,7 @@ pub fn silk_stage1(
         return stop(Screen::ZeroDivisor);
     }
     let mut d_srch = [0usize; 8];
-    let length_d_srch = (complexity << 1) + 4;
+    let length_d_srch = looked_at(complexity);
     silk_insertion_sort_decreasing_int16(&mut c_combined, &mut d_srch, CSTRIDE_4KHZ, length_d_srch);
     select(&c_combined, &d_srch, length_d_srch, search_thres1_q16)
 }

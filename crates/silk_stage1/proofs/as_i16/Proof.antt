@@ -1,4 +1,4 @@
--- `silk_stage1::as_i16` meets its contract. Assumes nothing.
+-- `silk_stage1::as_i16` meets its contract: the low 16 bits fit. Assumes nothing.
 use mir.Syntax.{w16, w32}
 use mir.Val.{ofZ}
 use Rattle.zint.specs.Wrap.{wrap}

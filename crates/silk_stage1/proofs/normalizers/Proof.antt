@@ -1,4 +1,4 @@
--- `silk_stage1::normalizers` meets its contract. Assumes nothing.
+-- `silk_stage1::normalizers` meets its contract. The invariant: the array is filled below i, and the normaliser is the last one stored. Assumes nothing.
 use mathlib.Core.Path.{_≡_, ap, _∙_}
 use Prim.Native.Nat.{ℕ, _+_, _-_, _*_, _≤_}
 use native.Mathlib.Omega.{arith}

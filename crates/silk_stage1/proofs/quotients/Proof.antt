@@ -1,4 +1,4 @@
--- `silk_stage1::quotients` meets its contract. Assumes nothing.
+-- `silk_stage1::quotients` meets its contract. The invariant: no divisor below i is zero, and the array is filled below i. Assumes nothing.
 use mathlib.Core.Path.{_≡_, sym, ap, ap₂, _∙_}
 use mathlib.Core.Bool.{false}
 use Prim.Native.Nat.{ℕ, _-_, _≤_, _<_}

@@ -1,4 +1,4 @@
--- `silk_stage1::run_above` meets its contract. Assumes nothing.
+-- `silk_stage1::run_above` meets its contract. The invariant: every score below i is above the threshold. Assumes nothing.
 use mathlib.Core.Path.{_≡_, refl, subst}
 use Prim.Native.Nat.{ℕ, _-_, _≤_, _<_}
 use native.Mathlib.Omega.{arith}
