@@ -2,7 +2,7 @@
 use mathlib.Core.Path.{_≡_}
 use mathlib.Core.Bool.{cond}
 use mathlib.Core.List.{List, [], _∷_, _++_}
-use Prim.Native.Nat.{ℕ, _+_}
+use Prim.Native.Nat.{ℕ, zero, suc, _+_}
 use lib.IntN.{ℤ, pos}
 use lib.ListN.{length, take}
 use lib.Seq.{sets}
@@ -35,6 +35,11 @@ row-text nb r = letter-of (r .verdict) ∷ (fields (take (3 + nb) (values-of r))
 -- a frame's line: its number, then its row
 unfoldable pub line-text : ℕ → ℕ → Row → List ℕ
 line-text i nb r = digits i ++ (32 ∷ row-text nb r)
+
+-- the lines of the first k frames
+unfoldable pub lines-text : ℕ → (ℕ → Row) → ℕ → List ℕ
+lines-text nb rows zero = []
+lines-text nb rows (suc k) = lines-text nb rows k ++ line-text k nb (rows k)
 
 -- `refused` and the number
 unfoldable pub refused-text : ℕ → List ℕ

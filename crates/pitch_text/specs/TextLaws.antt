@@ -3,19 +3,20 @@
 use mathlib.Core.Path.{_≡_, refl, sym, ap, ap₂, _∙_, subst}
 use mathlib.Core.List.{List, [], _∷_, _++_, append-assoc, append-nil}
 use Prim.Native.Nat.{ℕ, zero, suc, _+_, _*_, _^_, _≤_, _<_}
+use native.Mathlib.Numerals.{add-one}
 use native.Mathlib.Omega.{arith}
 use mathlib.Core.Bool.{true, false, false≢true}
 use borrow.Author.Tests.{ltb-true}
 use lib.IntN.{ℤ, pos, negsuc, natAbs}
 use lib.Signed.{ltZ}
-use lib.ListN.{length, getD, take, set, length-append}
-use lib.Seq.{sets, take-suc}
+use lib.ListN.{length, getD, take, drop, set, length-append}
+use lib.Seq.{sets, sets-eq, take-suc, take-at}
 use mir.Syntax.{w32}
 use mir.Val.{SFits}
 use Rattle.pitch_text.specs.Decimal.{digits, decimal}
 use Rattle.pitch_text.specs.DecimalLaws.{digits-few, sets-append}
 use Rattle.pitch_table.specs.declared.Row.{Row}
-use Rattle.pitch_text.specs.Text.{fields, values-of, Put}
+use Rattle.pitch_text.specs.Text.{fields, values-of, line-text, lines-text, Put}
 
 -- one text after another
 pub put-then : {b m a : List ℕ} {at mid end : ℕ} {s t : List ℕ} → Put b at s mid m → Put m mid t end a → Put b at (s ++ t) end a
@@ -61,6 +62,27 @@ fields-next v k h =
 pub length-values : (r : Row) → length (values-of r) ≡ 7
 unfolding values-of
 length-values r = refl
+
+-- no line, and one line more
+pub lines-none : (nb : ℕ) (rows : ℕ → Row) → [] ≡ lines-text nb rows 0
+unfolding lines-text
+lines-none nb rows = refl
+
+pub lines-next : (nb : ℕ) (rows : ℕ → Row) (k : ℕ) → lines-text nb rows k ++ line-text k nb (rows k) ≡ lines-text nb rows (k + 1)
+unfolding lines-text
+lines-next nb rows k = rw add-one
+
+-- rows that agree have the same lines
+pub lines-same : (nb : ℕ) (f g : ℕ → Row) (k : ℕ) → ((i : ℕ) → i < k → f i ≡ g i) → lines-text nb f k ≡ lines-text nb g k
+unfolding lines-text
+lines-same nb f g zero h = refl
+lines-same nb f g (suc k) h = ap₂ (λ (l : List ℕ) (r : Row). l ++ line-text k nb r) (lines-same nb f g k (λ i q. h i (omega arith))) (h k (omega arith))
+
+-- text that is written from the start of a buffer stands in front of it
+pub put-front : {b a : List ℕ} {end : ℕ} {s : List ℕ} → Put b 0 s end a → end ≤ length b → take end a ≡ s
+put-front {b} {a} {end} {s} p h =
+    let e : length s ≡ end = omega (arith, p .ends) in
+    ap (take end) (p .holds ∙ sets-eq s b 0 (omega arith)) ∙ take-at s (drop (0 + length s) b) end e
 
 -- a number of 32 bits has at most 11 bytes
 pub decimal-few : (z : ℤ) → SFits w32 z → length (decimal z) ≤ 11

@@ -4,9 +4,11 @@ ghost use mathlib.Core.List.{List};
 ghost use Prim.Native.Nat.{ℕ, _+_, _*_, _≤_};
 ghost use lib.ListN.{length, take};
 ghost use lib.Seq.{sets};
+ghost use Rattle.pitch_table.specs.Row.{row-at};
 ghost use Rattle.pitch_text.specs.Decimal.{digits, decimal};
-ghost use Rattle.pitch_text.specs.Text.{fields, letter-of, values-of, row-text, line-text, refused-text, Put};
+ghost use Rattle.pitch_text.specs.Text.{fields, letter-of, values-of, row-text, line-text, lines-text, refused-text, Put};
 use pitch_table::Row;
+use pitch_table::get_row;
 use silk_macros::abs_u32;
 
 // The decimal digits of n, from `at` on; the place after them.
@@ -99,6 +101,21 @@ pub fn put_line(out: &mut [u8], at: usize, i: u32, nb: usize, r: Row) -> usize
     let p = put_digits(out, at, i);
     out[p] = b' ';
     put_row_text(out, p + 1, nb, r)
+}
+
+// The lines of the first n rows of the table.
+pub fn put_lines(out: &mut [u8], at: usize, nb: usize, table: &[i32], n: usize) -> usize
+    requires { ⌜ (nb ≤ 4) × (n ≤ 4096) × (n * 8 ≤ length (now table)) × (at + 97 * n ≤ length (now out)) ⌝ }
+    ensures { λ end. ⌜ Put (now (out .entry)) at (lines-text nb (row-at (now (table .entry))) n) end (now (out .exit)) × (end ≤ at + 97 * n) ⌝ }
+{
+    let mut p = at;
+    let mut i = 0;
+    while i < n {
+        let r = get_row(table, i);
+        p = put_line(out, p, i as u32, nb, r);
+        i += 1;
+    }
+    p
 }
 
 // `refused` and a number.
