@@ -1,0 +1,27 @@
+-- `sheet_bytes::put_i32` meets its contract. Assumes nothing.
+use Rattle.zint.specs.Read.{r-var}
+use mathlib.Core.Path.{ap, _∙_}
+use Prim.Native.Nat.{ℕ}
+use lib.Seq.{sets}
+use Rattle.sheet_bytes.specs.Bytes.{low-bytes, word, signed}
+use borrow.Author.Needs.{needs}
+use Rattle.sheet_bytes.proofs.put_i32.Statement.{statement}
+use Rattle.sheet_bytes.proofs.put_i32.Tie as tie
+
+word-of-requires : tie.Need-word-of-requires
+word-of-requires c κs = search needs
+
+put-u32-requires : tie.Need-put-u32-requires
+put-u32-requires c κs = search needs
+
+same-length : tie.Need-same-length
+same-length c = search needs
+
+returns : tie.Need-returns
+unfolding signed
+returns c =
+    let s = c .before .before .before .before .before .before in
+    c .before .before .put-u32 .ensures ∙ ap (λ (n : ℕ). sets (s .args .page .now) (s .args .at) (low-bytes 4 n)) (c .before .before .before .word-of .ensures ∙ ap word (r-var (s .fits .z) .val))
+
+pub put-i32-spec : {M : Type 1} → statement M
+put-i32-spec = tie.close (tie.spec word-of-requires put-u32-requires same-length returns)

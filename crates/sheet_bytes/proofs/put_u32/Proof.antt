@@ -1,0 +1,47 @@
+-- `sheet_bytes::put_u32` meets its contract. Assumes nothing.
+use mathlib.Core.Path.{ap, _∙_}
+use mathlib.Core.List.{List}
+use Prim.Native.Nat.{ℕ, _+_, _/_}
+use lib.Seq.{sets}
+use Rattle.sheet_bytes.specs.Bytes.{low-bytes}
+use Rattle.sheet_bytes.specs.BytesLaws.{put-4}
+use borrow.Author.Needs.{needs}
+use Rattle.sheet_bytes.proofs.put_u32.Statement.{statement}
+use Rattle.sheet_bytes.proofs.put_u32.Tie as tie
+
+cast-put-u16 : tie.Need-cast-put-u16
+cast-put-u16 c = search needs
+
+put-u16-requires : tie.Need-put-u16-requires
+put-u16-requires c κs = search needs
+
+add-put-u16 : tie.Need-add-put-u16
+add-put-u16 c = search needs
+
+cast-put-u16-2 : tie.Need-cast-put-u16-2
+cast-put-u16-2 c = search needs
+
+put-u16-requires-2 : tie.Need-put-u16-requires-2
+put-u16-requires-2 c κs = search needs
+
+same-length : tie.Need-same-length
+same-length c = search needs
+
+returns : tie.Need-returns
+returns c =
+    let s = c .before .before .before .before .before .before .before .before .before in
+    c .before .before .put-u162 .ensures
+    ∙ ap (λ (p : List ℕ). sets p (s .args .at + 2) (low-bytes 2 (s .args .n / 65536))) (c .before .before .before .before .before .before .put-u16 .ensures)
+    ∙ put-4 (s .args .page .now) (s .args .at) (s .args .n) (s .fits .n .fits)
+
+pub put-u32-spec : {M : Type 1} → statement M
+put-u32-spec =
+    tie.close
+    (tie.spec
+    cast-put-u16
+    put-u16-requires
+    add-put-u16
+    cast-put-u16-2
+    put-u16-requires-2
+    same-length
+    returns)

@@ -1,0 +1,3 @@
+-- Numbers in a list of bytes. Definitions: `Bytes`; laws: `BytesLaws`.
+pub mod Bytes
+pub mod BytesLaws
