@@ -203,7 +203,8 @@ fn run_above(c_combined: &[i16], n: usize, threshold: i32) -> usize
     ensures { λ r. ⌜ r ≡ run (now («c_combined» .entry)) n threshold ⌝ }
 {
     for i in 0..n {
-        if c_combined[i] as i32 <= threshold {
+        let score = c_combined[i] as i32;
+        if score <= threshold {
             return i;
         }
     }
