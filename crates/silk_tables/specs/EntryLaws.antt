@@ -1,12 +1,17 @@
--- Bounds of a table's entries, by one computed test over the table; past the table's end 0 is read, so the bounds hold at every row and column.
+-- Bounds of a table's entries, by one computed test over the table; past the table's end 0 is read, so the bounds hold at every row and column. And what the code reads
+-- of an entry.
 -- Assumes nothing.
 use mathlib.Core.Path.{_≡_, refl}
 use mathlib.Core.Bool.{Bool, true, _&&_}
 use mathlib.Core.List.{List, [], _∷_}
-use Prim.Native.Nat.{ℕ, zero, suc}
+use Prim.Native.Nat.{ℕ, zero, suc, _^_, _<_}
 use lib.IntN.{ℤ, pos}
 use lib.ListN.{getD}
-use lib.Signed.{leZ, _≤ℤ_}
+use lib.Signed.{mag, leZ, _≤ℤ_}
+use mir.Syntax.{w8, w32}
+use mir.Val.{SFits, hbits, toZ, ofZ}
+use Rattle.zint.specs.Bound.{widen}
+use Rattle.zint.specs.Read.{r-elem, r-cast, f-cast}
 use Rattle.zint.specs.Tests.{le-true}
 use Rattle.silk_tables.specs.TestLaws.{and-left, and-right}
 
@@ -28,20 +33,27 @@ all-at test [] i d e f = f
 all-at test (x ∷ xs) zero d e f = and-left (test x) (all-of test xs) e
 all-at test (x ∷ xs) (suc i) d e f = all-at test xs i d (and-right (test x) (all-of test xs) e) f
 
-module _ (lo hi : ℤ) (rows : List (List ℤ)) (e : table-within lo hi rows ≡ true) (k j : ℕ) where
-  abbrev entry : ℤ
-  entry = getD (getD rows k []) j (pos 0)
+abbrev pub entry : List (List ℤ) → ℕ → ℕ → ℤ
+entry rows k j = getD (getD rows k []) j (pos 0)
 
-  entry-in : within lo hi entry ≡ true
+module _ (lo hi : ℤ) (rows : List (List ℤ)) (e : table-within lo hi rows ≡ true) (k j : ℕ) where
+  entry-in : within lo hi (entry rows k j) ≡ true
   unfolding table-within all-of
   entry-in =
       let zero-in = and-left (within lo hi (pos 0)) (all-of (all-of (within lo hi)) rows) e in
       all-at (within lo hi) (getD rows k []) j (pos 0) (all-at (all-of (within lo hi)) rows k [] (and-right (within lo hi (pos 0)) (all-of (all-of (within lo hi)) rows) e) refl) zero-in
 
-  pub entry-ge : lo ≤ℤ entry
+  pub entry-ge : lo ≤ℤ entry rows k j
   unfolding within
-  entry-ge = le-true lo entry (and-left (leZ lo entry) (leZ entry hi) entry-in)
+  entry-ge = le-true lo (entry rows k j) (and-left (leZ lo (entry rows k j)) (leZ (entry rows k j) hi) entry-in)
 
-  pub entry-le : entry ≤ℤ hi
+  pub entry-le : entry rows k j ≤ℤ hi
   unfolding within
-  entry-le = le-true entry hi (and-right (leZ lo entry) (leZ entry hi) entry-in)
+  entry-le = le-true (entry rows k j) hi (and-right (leZ lo (entry rows k j)) (leZ (entry rows k j) hi) entry-in)
+
+-- ---- an entry that is read and widened: that it fits, and what it is
+pub wide-fits : (z : ℤ) → mag z < 2 ^ hbits w8 → SFits w32 (toZ w8 (ofZ w8 z))
+wide-fits z h = let e = r-elem w8 z h in f-cast e (widen w8 w32 tt (e .fit))
+
+pub wide-is : (z : ℤ) → mag z < 2 ^ hbits w8 → toZ w32 (ofZ w32 (toZ w8 (ofZ w8 z))) ≡ z
+wide-is z h = let e = r-elem w8 z h in r-cast e (widen w8 w32 tt (e .fit)) .val

@@ -1,12 +1,7 @@
 -- `silk_tables::lag_cb_stage2` meets its contract: a lookup in the table that nb chooses. Assumes nothing.
 use mathlib.Core.Path.{sym, _∙_}
-use mathlib.Core.List.{[]}
-use lib.IntN.{pos}
-use lib.ListN.{getD}
-use mir.Syntax.{w8, w32}
-use Rattle.zint.specs.Bound.{widen}
-use Rattle.zint.specs.Read.{r-elem, r-cast, f-cast}
 use Rattle.silk_tables.specs.Tables.{cb-lags-stage2, cb-lags-stage2-10-ms}
+use Rattle.silk_tables.specs.EntryLaws.{entry, wide-fits, wide-is}
 use Rattle.silk_tables.specs.TableLaws.{two-or}
 use Rattle.silk_tables.specs.Stage2Laws.{entries2-4, entries2-other, offset2-4, offset2-other}
 use borrow.Author.Needs.{needs}
@@ -25,10 +20,7 @@ index-2-result c = omega (arith, entries2-4 (c .before .args .nb-subfr) (c .if1 
 
 cast-result : tie.Need-cast-result
 unfolding cb-lags-stage2
-cast-result c =
-    let a = c .before .before .args in
-    let e = r-elem w8 (getD (getD cb-lags-stage2 (a .k) []) (a .j) (pos 0)) (c .result .given) in
-    f-cast e (widen w8 w32 tt (e .fit))
+cast-result c = let a = c .before .before .args in wide-fits (entry cb-lags-stage2 (a .k) (a .j)) (c .result .given)
 
 mul-result-2 : tie.Need-mul-result-2
 mul-result-2 c = omega (arith, two-or (c .before .pre .0) (c .if1 .left))
@@ -41,24 +33,15 @@ index-2-result-2 c = omega (arith, entries2-other (c .before .args .nb-subfr) (c
 
 cast-result-2 : tie.Need-cast-result-2
 unfolding cb-lags-stage2-10-ms
-cast-result-2 c =
-    let a = c .before .before .args in
-    let e = r-elem w8 (getD (getD cb-lags-stage2-10-ms (a .k) []) (a .j) (pos 0)) (c .result2 .given) in
-    f-cast e (widen w8 w32 tt (e .fit))
+cast-result-2 c = let a = c .before .before .args in wide-fits (entry cb-lags-stage2-10-ms (a .k) (a .j)) (c .result2 .given)
 
 returns : tie.Need-returns
 unfolding cb-lags-stage2
-returns c =
-    let a = c .before .before .args in
-    let e = r-elem w8 (getD (getD cb-lags-stage2 (a .k) []) (a .j) (pos 0)) (c .result .given) in
-    r-cast e (widen w8 w32 tt (e .fit)) .val ∙ sym (offset2-4 (a .nb-subfr) (a .k) (a .j) (c .before .if1 .taken))
+returns c = let a = c .before .before .args in wide-is _ (c .result .given) ∙ sym (offset2-4 (a .nb-subfr) (a .k) (a .j) (c .before .if1 .taken))
 
 returns-2 : tie.Need-returns-2
 unfolding cb-lags-stage2-10-ms
-returns-2 c =
-    let a = c .before .before .args in
-    let e = r-elem w8 (getD (getD cb-lags-stage2-10-ms (a .k) []) (a .j) (pos 0)) (c .result2 .given) in
-    r-cast e (widen w8 w32 tt (e .fit)) .val ∙ sym (offset2-other (a .nb-subfr) (a .k) (a .j) (c .before .if1 .left))
+returns-2 c = let a = c .before .before .args in wide-is _ (c .result2 .given) ∙ sym (offset2-other (a .nb-subfr) (a .k) (a .j) (c .before .if1 .left))
 
 pub lag-cb-stage2-spec : {M : Type 1} → statement M
 lag-cb-stage2-spec =
