@@ -1,0 +1,88 @@
+-- `silk_signals::copy_into` meets its contract. Assumes nothing.
+use mathlib.Core.Path.{_≡_, refl, ap, _∙_}
+use mathlib.Core.List.{List}
+use Prim.Native.Nat.{ℕ, _≤_, _-_}
+use native.Mathlib.Omega.{arith}
+use lib.IntN.{ℤ, pos}
+use lib.ListN.{length, getD, length-set}
+use mir.Syntax.{w16}
+use Rattle.zint.specs.Read.{r-elem}
+use Rattle.zint.specs.Rules.{zneeds}
+use Rattle.lists.specs.Fill.{filled, filled-none, filled-turn}
+use Rattle.lists.specs.Push.{headed}
+use Rattle.lists.specs.Signal.{sample}
+use Rattle.silk_signals.specs.SignalLaws.{filled-headed, table-sample}
+use Rattle.silk_signals.proofs.copy_into.Statement.{statement}
+use Rattle.silk_signals.proofs.copy_into.Tie as tie
+
+abbrev Inv-loop : tie.InvT-loop
+Inv-loop frame out₀ i₀ i-end out i = (i ≤ i-end) × ((length out ≡ length out₀) × (out ≡ filled (sample frame) i out₀))
+
+abbrev μ-loop : tie.MeasureT-loop
+μ-loop frame out₀ i₀ i-end out i = i-end - i
+
+loop-holds : tie.Need-loop-holds Inv-loop μ-loop
+loop-holds c = (search zneeds, (refl, filled-none _ _))
+
+mul-x : tie.Need-mul-x Inv-loop μ-loop
+mul-x c = search zneeds
+
+shared-slice-copy-out-x : tie.Need-shared-slice-copy-out-x Inv-loop μ-loop
+shared-slice-copy-out-x c = search zneeds
+
+mul-x-2 : tie.Need-mul-x-2 Inv-loop μ-loop
+mul-x-2 c = search zneeds
+
+slice-set-from-x : tie.Need-slice-set-from-x Inv-loop μ-loop
+slice-set-from-x c = search zneeds
+
+add-i : tie.Need-add-i Inv-loop μ-loop
+add-i c = search zneeds
+
+loop-less : tie.Need-loop-less Inv-loop μ-loop
+loop-less c = search zneeds
+
+loop-again : tie.Need-loop-again Inv-loop μ-loop
+unfolding sample
+loop-again c =
+    let s = c .before .before in
+    let a = s .before .args in
+    let i = s .loop .i in
+    let v = r-elem w16 (getD (a .frame .now) i (pos 0)) (c .x .given) .val in (
+      omega arith,
+      (
+        simp length-set (s .loop .inv .1 .0),
+        filled-turn (sample (a .frame .now)) i (a .out .now) (s .loop .inv .1 .1) v (omega arith),
+      ),
+    )
+
+same-length : tie.Need-same-length Inv-loop μ-loop
+same-length c = search zneeds
+
+returns : tie.Need-returns Inv-loop μ-loop
+returns c =
+    let s = c .before in
+    let a = s .before .args in
+    let x = a .frame .now in
+    let e : s .loop .i ≡ length x = omega arith in
+    s .loop .inv .1 .1
+    ∙ ap (λ (k : ℕ). filled (sample x) k (a .out .now)) e
+    ∙ filled-headed (sample x) (length x) (a .out .now)
+    ∙ ap (λ (t : List ℤ). headed t (a .out .now)) (table-sample x)
+
+pub copy-into-spec : {M : Type 1} → statement M
+copy-into-spec =
+    tie.close
+    (tie.spec
+    Inv-loop
+    μ-loop
+    loop-holds
+    mul-x
+    shared-slice-copy-out-x
+    mul-x-2
+    slice-set-from-x
+    add-i
+    loop-less
+    loop-again
+    same-length
+    returns)
