@@ -56,7 +56,7 @@ zero1 f nb = some (nb / 2) (zero-in f)
 
 -- ---- the scores: "steps not named here, the scores and biases among them, are the source's"
 
--- the quotient's low 16 bits
+-- the quotient's low 16 bits (where it has none the stage ends, and the 0 is not read)
 abbrev pub low-of : Quotient → ℤ
 low-of (Value q) = wrap w16 q
 low-of ByZero = pos 0
@@ -88,11 +88,11 @@ lag-at xs r = 8 + ranked xs r
 unfoldable pub score-at : List ℤ → ℕ → ℤ
 score-at xs r = sample xs (ranked xs r)
 
--- "The 4 + 2 × complexity best are kept"
+-- "The 4 + 2 × complexity best are kept": so many places of the ranking are looked at
 unfoldable pub looked : ℕ → ℕ
 looked cx = 4 + 2 * cx
 
--- "the threshold `silk_smulwb(thres1, best)`"
+-- "the threshold `silk_smulwb(thres1, best)`": the best is the score at the first place
 unfoldable pub threshold1 : List ℤ → ℤ → ℤ
 threshold1 xs thres1 = smulwb thres1 (score-at xs 0)
 

@@ -1,4 +1,5 @@
--- Stage 1's answer has the meaning in words (`stage1-means`), and no other answer has it (`stage1-only`).
+-- Stage 1's answer has the meaning in words (`stage1-means`), and no other answer has it (`stage1-only`); each verdict comes exactly where the words say (`zero-where`,
+-- `unvoiced-where`, `goes-where`, `zero-only`, `unvoiced-only`).
 -- Assumes nothing.
 use mathlib.Core.Path.{_≡_, refl, sym, ap, ap₂, _∙_, subst, subst₂}
 use mathlib.Core.Bool.{Bool, true, false, cond, false≢true}
@@ -13,7 +14,7 @@ use lib.Seq.{ext-getD}
 use lib.Signed.{ltZ, leZ, _≤ℤ_, _<ℤ_, clashℤ}
 use Rattle.zint.specs.Equal.{eqZ}
 use Rattle.zint.specs.EqualLaws.{eqZ-yes, eqZ-true}
-use Rattle.zint.specs.Order.{≤ℤ-antisym, ≤ℤ-trans}
+use Rattle.zint.specs.Order.{≤ℤ-antisym, ≤ℤ-trans, ≤ℤ-<ℤ-trans, lt-yes, lt-no}
 use Rattle.zint.specs.Tests.{lt-true, lt-false, le-true, le-false}
 use Rattle.lists.specs.Signal.{sample}
 use Rattle.lists.specs.Fill.{filled, getD-filled, getD-after, length-filled}
@@ -163,6 +164,59 @@ module _ (f : List ℤ) (nb cx : ℕ) (thres1 : ℤ) (small : cx < 3) where
 pub stage1-means : (f : List ℤ) (nb cx : ℕ) (thres1 : ℤ) → Handed1 f nb cx → Meaning f nb cx thres1 (stage1 f nb cx thres1)
 unfolding stage1
 stage1-means f nb cx thres1 r = by-divisor f nb cx thres1 (r .complexity) (zero1 f nb) refl
+
+-- ---- each verdict exactly where
+
+module _ (f : List ℤ) (nb cx : ℕ) (thres1 : ℤ) where
+  abbrev zs : List ℤ
+  zs = scores1 f nb
+
+  abbrev verdict : Bool → Bool → Screen
+  verdict t u = cond t ZeroDivisor (cond u Unvoiced Goes)
+
+  screen-is : (t u : Bool) → zero1 f nb ≡ t → ltZ (score-at zs 0) (pos 3277) ≡ u → stage1 f nb cx thres1 .screen ≡ verdict t u
+  unfolding stage1 screened stopped
+  screen-is true u e g = ap (λ (b : Bool). cond b (stopped ZeroDivisor) (screened zs cx thres1) .screen) e
+  screen-is false u e g =
+      ap (λ (b : Bool). cond b (stopped ZeroDivisor) (screened zs cx thres1) .screen) e
+      ∙ ap (λ (b : Bool). cond b (stopped Unvoiced) (record { screen = Goes; lags = filled (lag-at zs) (kept-count zs cx thres1) (replicate 8 0); count = kept-count zs cx thres1 }) .screen) g
+      ∙ either u
+    where
+      either : (b : Bool) → cond b (stopped Unvoiced) (record { screen = Goes; lags = filled (lag-at zs) (kept-count zs cx thres1) (replicate 8 0); count = kept-count zs cx thres1 }) .screen ≡ cond b Unvoiced Goes
+      either true = refl
+      either false = refl
+
+  none-zero : ((h d : ℕ) → ZeroReached f nb h d → ⊥) → zero1 f nb ≡ false
+  none-zero n = by (zero1 f nb) refl
+    where
+      by : (t : Bool) → zero1 f nb ≡ t → t ≡ false
+      by true e = let z = zero-words f nb e in absurd (n (z .0) (z .1) (z .2))
+      by false e = refl
+
+  -- a zero divisor where some half-frame and lag have one
+  pub zero-where : (h d : ℕ) → ZeroReached f nb h d → stage1 f nb cx thres1 .screen ≡ ZeroDivisor
+  zero-where h d z = screen-is true (ltZ (score-at zs 0) (pos 3277)) (zero-of f nb h d z) refl
+
+  -- unvoiced where none has and every score is under 3277
+  pub unvoiced-where : ((h d : ℕ) → ZeroReached f nb h d → ⊥) → ((d : ℕ) → Lag d → score1 f nb d <ℤ pos 3277) → stage1 f nb cx thres1 .screen ≡ Unvoiced
+  unvoiced-where n low =
+      let t = top-is f nb .of in
+      screen-is false true (none-zero n) (lt-yes (subst (λ (z : ℤ). z <ℤ pos 3277) (t .1 .1) (low (t .0) (t .1 .0))))
+
+  -- it goes on where none has and some score is at least 3277
+  pub goes-where : ((h d : ℕ) → ZeroReached f nb h d → ⊥) → (d : ℕ) → Lag d → pos 3277 ≤ℤ score1 f nb d → stage1 f nb cx thres1 .screen ≡ Goes
+  goes-where n d l high = screen-is false false (none-zero n) (lt-no (≤ℤ-trans high (top-is f nb .highest d l)))
+
+  -- and only there
+  module _ (r : Handed1 f nb cx) where
+    said : {s : Screen} → stage1 f nb cx thres1 .screen ≡ s → Said f nb cx thres1 s (stage1 f nb cx thres1 .lags) (stage1 f nb cx thres1 .count)
+    said e = subst (λ (s : Screen). Said f nb cx thres1 s (stage1 f nb cx thres1 .lags) (stage1 f nb cx thres1 .count)) e (stage1-means f nb cx thres1 r)
+
+    pub zero-only : stage1 f nb cx thres1 .screen ≡ ZeroDivisor → (h : ℕ) × (d : ℕ) × ZeroReached f nb h d
+    zero-only e = said e .0
+
+    pub unvoiced-only : stage1 f nb cx thres1 .screen ≡ Unvoiced → ((h d : ℕ) → ZeroReached f nb h d → ⊥) × ((d : ℕ) → Lag d → score1 f nb d <ℤ pos 3277)
+    unvoiced-only e = let m = said e in (m .0, λ d l. ≤ℤ-<ℤ-trans (m .1 .1 .highest d l) (m .1 .2))
 
 -- ---- no other answer has that meaning
 
