@@ -7,6 +7,7 @@ ghost use Rattle.lists.specs.Fill.{filled};
 ghost use Rattle.cases_io.specs.Little.{u16-at, i16-at, i32-at, agree};
 use libc::STDOUT_FILENO;
 use std::num::wrapping_add_u64;
+use zint::abs_u32;
 use zint::low16;
 use zint::low32;
 
@@ -14,6 +15,13 @@ use zint::low32;
 pub struct Tally {
     pub agreed: u64,
     pub total: u64,
+}
+
+// Room for a list of cases. The `ensures` gives only the length, so that nothing unfolds the zeros.
+pub fn room() -> [u8; 1048576]
+    ensures { λ r. ⌜ 1048576 ≡ length r ⌝ }
+{
+    [0; 1048576]
 }
 
 pub fn byte_at(bytes: &[u8], at: usize) -> u8
@@ -139,4 +147,12 @@ impl Tally {
         io::print_decimal(STDOUT_FILENO, self.total);
         io::write_all(STDOUT_FILENO, b"\n");
     }
+}
+
+// A number in decimal, with its sign where it is negative.
+pub fn print_i32(x: i32) {
+    if x < 0 {
+        io::write_all(STDOUT_FILENO, b"-");
+    }
+    io::print_decimal(STDOUT_FILENO, abs_u32(x) as u64);
 }

@@ -1,7 +1,7 @@
--- Laws of `silk_div32_varq`: the headroom's range, and that the inner divisor is zero only for b = 0.
+-- Laws of `silk_div32_varq`: the headroom's range, that the inner divisor is zero only for b = 0, and that every quotient fits 32 bits.
 -- Assumes nothing.
 use mathlib.Core.Path.{_≡_, refl, sym, ap, _∙_, subst}
-use mathlib.Core.Bool.{Bool}
+use mathlib.Core.Bool.{Bool, true, false}
 use Prim.Native.Nat.{ℕ, zero, suc, _+_, _*_, _/_, _^_, _≤_, _<_}
 use native.Mathlib.Nat.{div-le-self, mul-lt-mul-of-pos-right, mul-le-mul-right}
 use native.Mathlib.Omega.{arith}
@@ -10,15 +10,17 @@ use lib.Count.{leadingZeros, leading-top, leading-le}
 use lib.Dec.{lit<}
 use lib.IntN.{ℤ, pos, negsuc, negℤ, natAbs, _-ℤ_, _*ℤ_}
 use lib.Pow.{pow-pos, pow-add}
-use lib.Signed.{shrZ, quotZ, _<ℤ_, _≤ℤ_}
-use mir.Syntax.{w32}
+use lib.Signed.{shrZ, quotZ, ltZ, _<ℤ_, _≤ℤ_}
+use mir.Syntax.{w32, w64}
 use mir.Val.{SFits, sel}
-use Rattle.zint.specs.Bound.{abs-lt-fits, abs-pos, abs-mul, abs-neg, fits-abs}
+use Rattle.zint.specs.Bound.{abs-lt-fits, abs-pos, abs-mul, abs-neg, fits-abs, shr-fits}
+use Rattle.zint.specs.Clamp.{sat}
+use Rattle.zint.specs.ClampLaws.{sat-fits}
 use Rattle.zint.specs.Diff.{eq-of, sub-ud′, v, n, _⊖_, lt-by, le-by}
 use Rattle.zint.specs.Wrap.{wrap}
-use Rattle.zint.specs.WrapLaws.{wrap-id}
-use Rattle.silk_macros.specs.Macros.{headroom, normal}
-use Rattle.silk_macros.specs.Divide.{inverse}
+use Rattle.zint.specs.WrapLaws.{wrap-id, wrap-fits}
+use Rattle.silk_macros.specs.Macros.{smlawb, lshift-sat32, headroom, normal}
+use Rattle.silk_macros.specs.Divide.{inverse, refine, place, div32-varq}
 
 pub headroom-neg : (a : ℤ) → leadingZeros 32 (natAbs a) ≡ 0 → headroom a ≡ negsuc 0
 unfolding headroom
@@ -80,3 +82,17 @@ divisor-ne b f g = top-half (normal b (headroom b)) (normal-big b f (abs-pos b g
 pub inverse-fits : (bn : ℤ) → SFits w32 (inverse bn)
 unfolding inverse
 inverse-fits bn = quot-fits 536870911 (shrZ bn 65536) (lit< tt)
+
+-- every quotient fits 32 bits
+place-fits : (r s : ℤ) → SFits w32 r → SFits w32 (place r s)
+unfolding place lshift-sat32
+place-fits r s f = by (ltZ s (pos 0)) (ltZ s (pos 32))
+  where
+    by : (t u : Bool) → SFits w32 (sel t (sat w32 (wrap w64 (r *ℤ pos (2 ^ natAbs s)))) (sel u (shrZ r (2 ^ natAbs s)) (pos 0)))
+    by true u = sat-fits w32 (wrap w64 (r *ℤ pos (2 ^ natAbs s)))
+    by false true = shr-fits r (2 ^ natAbs s) f
+    by false false = record { sfits = lit< tt }
+
+pub div32-varq-fits : (a b q : ℤ) → SFits w32 (div32-varq a b q)
+unfolding div32-varq refine smlawb
+div32-varq-fits a b q = place-fits _ _ (wrap-fits w32 _)
