@@ -1,0 +1,58 @@
+-- `sheet_rows::voiced_row` meets its contract. Assumes nothing.
+use mathlib.Core.Path.{_≡_, ap₂, _∙_}
+use mathlib.Core.Bool.{true}
+use Prim.Native.Nat.{ℕ, _^_, _<_}
+use lib.IntN.{ℤ}
+use lib.Signed.{mag}
+use mir.Syntax.{w32}
+use mir.Val.{hbits, toZ, ofZ}
+use Rattle.zint.specs.Read.{r-var, r-got}
+use Rattle.silk_tables.specs.Rebuild.{carried}
+use Rattle.pitch_settings.specs.Settings.{settings-no}
+use Rattle.sheet_rows.specs.Rows.{lag-place, voiced-row}
+use Rattle.sheet_rows.proofs.voiced_row.Statement.{statement}
+use Rattle.sheet_rows.proofs.voiced_row.Tie as tie
+
+-- what each lag asks, at the numbers handed on
+pair : (c : tie.Start) → (settings-no (c .args .s) ≡ 0) × (carried (c .args .s .rate) (c .args .s .nb) (c .args .s .complexity) (toZ w32 (ofZ w32 (c .args .index))) (toZ w32 (ofZ w32 (c .args .contour))) ≡ true)
+pair c = (c .pre .0, rw (r-var (c .fits .index) .val, r-var (c .fits .contour) .val) (c .pre .1))
+
+-- each lag, at the numbers handed in
+lag-is : (c : tie.Start) (k : ℕ) {r : ℤ} → mag r < 2 ^ hbits w32 → r ≡ lag-place (c .args .s) (toZ w32 (ofZ w32 (c .args .index))) (toZ w32 (ofZ w32 (c .args .contour))) k → toZ w32 (ofZ w32 r) ≡ lag-place (c .args .s) (c .args .index) (c .args .contour) k
+lag-is c k o e = r-got w32 o e .val ∙ ap₂ (λ (x y : ℤ). lag-place (c .args .s) x y k) (r-var (c .fits .index) .val) (r-var (c .fits .contour) .val)
+
+lag-place-requires : tie.Need-lag-place-requires
+lag-place-requires c κs = pair c
+
+lag-place-requires-2 : tie.Need-lag-place-requires-2
+lag-place-requires-2 c κs = pair (c .before)
+
+lag-place-requires-3 : tie.Need-lag-place-requires-3
+lag-place-requires-3 c κs = pair (c .before .before)
+
+lag-place-requires-4 : tie.Need-lag-place-requires-4
+lag-place-requires-4 c κs = pair (c .before .before .before)
+
+returns : tie.Need-returns
+unfolding voiced-row
+returns c =
+    let s = c .before .before .before .before in
+    simp (
+      r-var (s .fits .index) .val,
+      r-var (s .fits .contour) .val,
+      r-var (s .fits .correlation) .val,
+      lag-is s 0 (c .before .before .before .lag-place .ok) (c .before .before .before .lag-place .ensures),
+      lag-is s 1 (c .before .before .lag-place2 .ok) (c .before .before .lag-place2 .ensures),
+      lag-is s 2 (c .before .lag-place3 .ok) (c .before .lag-place3 .ensures),
+      lag-is s 3 (c .lag-place4 .ok) (c .lag-place4 .ensures),
+    )
+
+pub voiced-row-spec : {M : Type 1} → statement M
+voiced-row-spec =
+    tie.close
+    (tie.spec
+    lag-place-requires
+    lag-place-requires-2
+    lag-place-requires-3
+    lag-place-requires-4
+    returns)
