@@ -1,0 +1,2 @@
+-- What the program's divisions rest on. Laws: `QuotientLaws`.
+pub mod QuotientLaws
