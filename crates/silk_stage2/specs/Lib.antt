@@ -1,3 +1,6 @@
--- Stage 2 of the pitch analyser. Definitions: `Scores`, `Stage2`; laws beside them; the answer in words: `Theorem`.
+-- Stage 2 of the pitch analyser. Definitions: `Scores`, `Stage2`; the answer in words: `Theorem`; the rest are what proofs need.
 pub mod Scores
+pub mod ScoreLaws
 pub mod Stage2
+pub mod Searched
+pub mod Theorem

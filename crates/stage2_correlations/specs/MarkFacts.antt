@@ -1,15 +1,62 @@
--- Document 01's examples of marks, and that at most 24 lags are listed.
+-- The listed and the measured lags in words, document 01's examples of them, and that at most 24 lags are listed.
 -- Assumes nothing.
 use mathlib.Core.Path.{_≡_, refl, ap, ap₂, _∙_}
 use mathlib.Core.Bool.{Bool, true, false, _&&_, _||_, cond, false≢true}
 use mathlib.Core.List.{List, [], _∷_, _++_}
-use Prim.Native.Nat.{ℕ, zero, suc, _+_, _-_, _*_, _≤_, min}
+use Prim.Native.Nat.{ℕ, zero, suc, _+_, _-_, _*_, _≤_, _<_, min}
 use native.Mathlib.Omega.{arith}
 use borrow.Author.Tests.{leb-true}
 use lib.Dec.{leb}
 use lib.ListN.{length, getD, length-append}
 use Rattle.best.specs.Best.{some}
+use Rattle.best.specs.BestLaws.{some-find}
 use Rattle.stage2_correlations.specs.Marks.{mark-near, near, listed, measured, Kept}
+use Rattle.stage2_correlations.specs.MarkLaws.{and-left, and-right, mark-yes, near-yes, inside}
+
+-- ---- a marked lag in words: it lies within the ends, and from v - below to v + above for the double v of a kept lag
+
+pub record Marked (kept : List ℕ) (below above low high d : ℕ) : Type 0 where
+  pub at-least : low ≤ d
+  pub at-most : d ≤ high
+  pub which : ℕ
+  pub is-kept : which < length kept
+  pub not-below : 2 * getD kept which 0 ≤ d + below
+  pub not-above : d ≤ 2 * getD kept which 0 + above
+
+abbrev pub Listed : List ℕ → ℕ → Type 0
+Listed kept d = Marked kept 1 1 16 143 d
+
+abbrev pub Measured : List ℕ → ℕ → Type 0
+Measured kept d = Marked kept 2 3 14 144 d
+
+module _ (kept : List ℕ) (below above low high d : ℕ) where
+  of-marked : Marked kept below above low high d → (leb low d && (leb d high && near kept below above d)) ≡ true
+  of-marked m =
+      inside low high d (near kept below above d) (m .at-least) (m .at-most)
+      ∙ near-yes kept below above d (m .which) (m .is-kept) (mark-yes kept below above d (m .which) (m .not-below) (m .not-above))
+
+  to-marked : (leb low d && (leb d high && near kept below above d)) ≡ true → Marked kept below above low high d
+  unfolding near mark-near
+  to-marked e =
+      let r = and-right (leb low d) (leb d high && near kept below above d) e in
+      let q = some-find (length kept) (mark-near kept below above d) (and-right (leb d high) (near kept below above d) r) in
+      let v = 2 * getD kept (q .0) 0 in
+      record {
+        at-least = leb-true low d (and-left (leb low d) (leb d high && near kept below above d) e);
+        at-most = leb-true d high (and-left (leb d high) (near kept below above d) r);
+        which = q .0;
+        is-kept = q .1;
+        not-below = leb-true v (d + below) (and-left (leb v (d + below)) (leb d (v + above)) (q .2));
+        not-above = leb-true d (v + above) (and-right (leb v (d + below)) (leb d (v + above)) (q .2));
+      }
+
+pub listed-means : (kept : List ℕ) (d : ℕ) → (listed kept d ≡ true → Listed kept d) × (Listed kept d → listed kept d ≡ true)
+unfolding listed
+listed-means kept d = (to-marked kept 1 1 16 143 d, of-marked kept 1 1 16 143 d)
+
+pub measured-means : (kept : List ℕ) (d : ℕ) → (measured kept d ≡ true → Measured kept d) × (Measured kept d → measured kept d ≡ true)
+unfolding measured
+measured-means kept d = (to-marked kept 2 3 14 144 d, of-marked kept 2 3 14 144 d)
 
 -- the numbers below n that pass the test, rising
 unfoldable pub passing : ℕ → (ℕ → Bool) → List ℕ
@@ -108,13 +155,8 @@ of-some kept n zero = no-number n
 of-some kept n (suc k) =
     omega (arith, either n (λ d. some k (mark-near kept 1 1 d)) (λ d. mark-near kept 1 1 d k), of-some kept n k, three (2 * getD kept k 0) n)
 
-last : (a b c : Bool) → (a && (b && c)) ≡ true → c ≡ true
-last true true c e = e
-last true false c e = absurd (false≢true e)
-last false b c e = absurd (false≢true e)
-
 pub at-most-24 : (kept : List ℕ) → Kept kept → (n : ℕ) → length (passing n (listed kept)) ≤ 24
 unfolding listed near
 at-most-24 kept r n =
-    let h = fewer n (listed kept) (near kept 1 1) (λ d e. last (leb 16 d) (leb d 143) (near kept 1 1 d) e) in
+    let h = fewer n (listed kept) (near kept 1 1) (λ d e. and-right (leb d 143) (near kept 1 1 d) (and-right (leb 16 d) (leb d 143 && near kept 1 1 d) e)) in
     omega (arith, h, of-some kept n (length kept), r .few)

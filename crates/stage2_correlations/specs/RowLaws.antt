@@ -1,30 +1,33 @@
 -- Laws of a subframe's row: a ratio way by way, the divisor from running energies, one lag more, and the row at the marks of the kept lags.
 -- Assumes nothing.
 use mathlib.Core.Path.{_≡_, refl, sym, ap, ap₂, _∙_}
-use mathlib.Core.Bool.{Bool, true, false, _&&_, _||_, cond}
+use mathlib.Core.Bool.{Bool, true, false, _&&_, _||_, cond, or-true, or-false, true≢false}
 use mathlib.Core.List.{List, _++_, append-nil}
-use Prim.Native.Nat.{ℕ, _+_, _-_, _<_}
+use Prim.Native.Nat.{ℕ, _+_, _-_, _<_, _≤_}
 use native.Mathlib.Numerals.{add-one}
 use native.Mathlib.Omega.{arith}
-use lib.IntN.{ℤ, pos, _+ℤ_, _-ℤ_, _*ℤ_, +ℤ-assoc}
+use native.Mathlib.Decide.{decLt}
+use lib.IntN.{ℤ, pos, natAbs, _+ℤ_, _-ℤ_, _*ℤ_, +ℤ-assoc}
 use lib.ListN.{length, getD, drop}
 use lib.Seq.{drop-length}
 use lib.Signed.{ltZ}
 use mir.Syntax.{w16, w32}
 use Rattle.zint.specs.Equal.{eqZ}
 use Rattle.zint.specs.Wrap.{wrap}
-use Rattle.zint.specs.WrapLaws.{wraps}
+use Rattle.zint.specs.WrapLaws.{wraps, wrap-fits}
+use Rattle.zint.specs.Bound.{fits-abs}
 use Rattle.lists.specs.Signal.{sample}
 use Rattle.lists.specs.Fill.{table, filled, getD-table, table-ext}
 use Rattle.best.specs.Best.{some}
-use Rattle.best.specs.BestLaws.{some-ext}
+use Rattle.best.specs.BestLaws.{some-ext, some-true, some-false, some-find, some-none}
 use Rattle.silk_macros.specs.Divide.{quotient, div32-varq}
 use Rattle.silk_macros.specs.declared.Quotient.{Quotient}
 use Rattle.silk_macros.specs.declared.Quotient.the-variants.{Value, ZeroDivisor}
 use Rattle.silk_sigproc.specs.Dot.{dot}
 use Rattle.silk_sigproc.specs.DotLaws.{dot-slide}
 use Rattle.stage2_correlations.specs.declared.Ratio.{Ratio}
-use Rattle.stage2_correlations.specs.Marks.{measured}
+use Rattle.stage2_correlations.specs.Marks.{near, measured}
+use Rattle.stage2_correlations.specs.MarkLaws.{too-low, too-high}
 use Rattle.stage2_correlations.specs.Correlations.{target, cross, divisor, low16-of, ratio, by-zero, correlation, zero-reached}
 use Rattle.stage2_correlations.specs.Rows.{ratio-of, energy-from, at-lag, value-at, zero-at, row}
 
@@ -94,14 +97,6 @@ pub some-next : (n : ℕ) (t : ℕ → Bool) → some (n + 1) t ≡ (some n t ||
 unfolding some
 some-next n t = ap (λ (m : ℕ). some m t) (add-one n)
 
-or-true : (a : Bool) → (a || true) ≡ true
-or-true true = refl
-or-true false = refl
-
-or-false : (a : Bool) → (a || false) ≡ a
-or-false true = refl
-or-false false = refl
-
 pub some-more : (n : ℕ) (t : ℕ → Bool) {z : Bool} → t n ≡ true → z ≡ true → z ≡ some (n + 1) t
 some-more n t e f = f ∙ sym (some-next n t ∙ ap (λ (b : Bool). some n t || b) e ∙ or-true (some n t))
 
@@ -121,3 +116,47 @@ row-kept e kept k =
       c = table-ext {f = value-at e (table (λ i. measured kept (14 + i)) 132) k} {g = λ i. cond (measured kept (14 + i)) (ratio (cross e k (14 + i)) (divisor e k (14 + i))) (pos 0)} 132
           (λ i h. ap (λ (b : Bool). cond b (ratio (cross e k (14 + i)) (divisor e k (14 + i))) (pos 0)) (m i h)) t;
     })
+
+-- ---- a correlation has 16 bits
+
+low16-small : (a : Quotient) → natAbs (low16-of a) ≤ 32768
+low16-small (Value q) = fits-abs (wrap-fits w16 q)
+low16-small ZeroDivisor = omega arith
+
+cond-small : (t : Bool) (z : ℤ) → natAbs z ≤ 32768 → natAbs (cond t z (pos 0)) ≤ 32768
+cond-small true z h = h
+cond-small false z h = omega arith
+
+pub correlation-small : (e : List ℤ) (kept : List ℕ) (k d : ℕ) → natAbs (correlation e kept k d) ≤ 32768
+unfolding correlation ratio
+correlation-small e kept k d =
+    let x = cross e k d in
+    let n = divisor e k d in
+    cond-small (measured kept d) (ratio x n) (cond-small (ltZ (pos 0) x) (low16-of (quotient x n (pos 14))) (low16-small (quotient x n (pos 14))))
+
+-- ---- the lags of a row are all the lags that can be measured
+
+outside-low : (e : List ℤ) (kept : List ℕ) (k d : ℕ) → d < 14 → zero-reached e kept k d ≡ false
+unfolding zero-reached measured
+outside-low e kept k d h = ap (λ (t : Bool). t && by-zero (cross e k d) (divisor e k d)) (too-low 14 144 d (near kept 2 3 d) h)
+
+outside-high : (e : List ℤ) (kept : List ℕ) (k d : ℕ) → 144 < d → zero-reached e kept k d ≡ false
+unfolding zero-reached measured
+outside-high e kept k d h = ap (λ (t : Bool). t && by-zero (cross e k d) (divisor e k d)) (too-high 14 144 d (near kept 2 3 d) h)
+
+pub zero-lags : (e : List ℤ) (kept : List ℕ) (k : ℕ) → some 132 (λ i. zero-reached e kept k (14 + i)) ≡ some 145 (zero-reached e kept k)
+zero-lags e kept k = by (some 145 (zero-reached e kept k)) refl
+  where
+    at-lag-of : (d : ℕ) → d < 145 → zero-reached e kept k d ≡ true → Dec (d < 14) → some 132 (λ i. zero-reached e kept k (14 + i)) ≡ true
+    at-lag-of d l t (yes m) = absurd (true≢false (sym t ∙ outside-low e kept k d m))
+    at-lag-of d l t (no m) =
+        let q : 14 + (d - 14) ≡ d = omega arith in
+        some-true 132 (λ i. zero-reached e kept k (14 + i)) (d - 14) (omega arith) (ap (zero-reached e kept k) q ∙ t)
+
+    no-lag : some 145 (zero-reached e kept k) ≡ false → (i : ℕ) → i < 132 → Dec (14 + i < 145) → zero-reached e kept k (14 + i) ≡ false
+    no-lag f i l (yes m) = some-none 145 (zero-reached e kept k) f (14 + i) m
+    no-lag f i l (no m) = outside-high e kept k (14 + i) (omega arith)
+
+    by : (t : Bool) → some 145 (zero-reached e kept k) ≡ t → some 132 (λ i. zero-reached e kept k (14 + i)) ≡ t
+    by true f = let q = some-find 145 (zero-reached e kept k) f in at-lag-of (q .0) (q .1) (q .2) (decLt (q .0) 14)
+    by false f = some-false 132 (λ i. zero-reached e kept k (14 + i)) (λ i l. no-lag f i l (decLt (14 + i) 145))

@@ -1,6 +1,6 @@
 // Stage 2's measurements at 8 kHz: the lags that stage 1's kept lags list and measure, and a subframe's correlations by lag.
 ghost use mathlib.Core.Path.{_≡_};
-ghost use Prim.Native.Nat.{ℕ, _+_, _-_, _≤_, _<_};
+ghost use Prim.Native.Nat.{ℕ, _+_, _≤_, _<_};
 ghost use lib.IntN.{_+ℤ_, _-ℤ_, _*ℤ_};
 ghost use lib.ListN.{length};
 ghost use mir.Syntax.{w32};
