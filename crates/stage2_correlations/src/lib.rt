@@ -29,7 +29,8 @@ pub struct Ratio {
     pub value: i16,
 }
 
-// A subframe's correlations at the lags 14 to 145, and whether a divisor that was reached is zero.
+// A subframe's correlations at the lags 14 to 145 (132 places, the source's CSTRIDE_8KHZ; lag 145 can be read and is never measured), and whether a divisor that was
+// reached is zero.
 pub struct Row {
     pub zero: bool,
     pub c: [i16; 132],
