@@ -153,6 +153,15 @@ module _ (s : Settings) (verdict index contour correlation : ℤ) (r : Row) wher
 
 -- ---- a row that a sheet can hold
 
+-- its numbers are small and not negative: a verdict up to 2, an index up to 256, a contour of one byte
+pub record Small (r : Row) : Type 0 where
+  pub verdict : r .verdict ≡ pos (natAbs (r .verdict))
+  pub verdict-le : natAbs (r .verdict) ≤ 2
+  pub index : r .index ≡ pos (natAbs (r .index))
+  pub index-le : natAbs (r .index) ≤ 256
+  pub contour : r .contour ≡ pos (natAbs (r .contour))
+  pub contour-le : natAbs (r .contour) ≤ 255
+
 module _ (s : Settings) (r : Row) where
   pub holds-means : row-holds s r ≡ true → row-of s (r .verdict) (r .index) (r .contour) (r .correlation) ≡ Held r
   unfolding row-holds
@@ -166,20 +175,11 @@ module _ (s : Settings) (r : Row) where
   unfolding row-holds
   holds-yes e = rw e (same-row-self r)
 
-  -- its numbers are small and not negative: a verdict up to 2, an index up to 256, a contour of one byte
-  pub record Small : Type 0 where
-    pub verdict : r .verdict ≡ pos (natAbs (r .verdict))
-    pub verdict-le : natAbs (r .verdict) ≤ 2
-    pub index : r .index ≡ pos (natAbs (r .index))
-    pub index-le : natAbs (r .index) ≤ 256
-    pub contour : r .contour ≡ pos (natAbs (r .contour))
-    pub contour-le : natAbs (r .contour) ≤ 255
-
-  pub holds-small : row-holds s r ≡ true → Small
+  pub holds-small : row-holds s r ≡ true → Small r
   unfolding quiet-row
   holds-small h = by (stands s (r .verdict) (r .index) (r .contour) (r .correlation) r (holds-means h))
     where
-      zeros : (v : ℤ) (n : ℕ) → v ≡ pos n → n ≤ 2 → r ≡ quiet-row v → Small
+      zeros : (v : ℤ) (n : ℕ) → v ≡ pos n → n ≤ 2 → r ≡ quiet-row v → Small r
       zeros v n e l q =
           let a : r .verdict ≡ pos n = ap (λ (x : Row). x .verdict) q ∙ e in
           let i : r .index ≡ pos 0 = ap (λ (x : Row). x .index) q in
@@ -193,7 +193,7 @@ module _ (s : Settings) (r : Row) where
             contour-le = rw c (omega arith);
           }
 
-      by : Stands s (r .verdict) (r .index) (r .contour) (r .correlation) r → Small
+      by : Stands s (r .verdict) (r .index) (r .contour) (r .correlation) r → Small r
       by (voiced e k q) =
           let p = carried-means k in
           let g = greatest-le (s .rate) in
