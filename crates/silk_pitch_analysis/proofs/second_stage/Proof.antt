@@ -1,0 +1,81 @@
+-- `silk_pitch_analysis::second_stage` meets its contract. Assumes nothing.
+use mathlib.Core.Path.{_≡_, sym, ap, ap₂, _∙_}
+use native.Mathlib.Omega.{arith}
+use lib.IntN.{ℤ}
+use mir.Syntax.{w32}
+use mir.Val.{toZ, ofZ}
+use Rattle.zint.specs.Read.{r-var, r-elem}
+use Rattle.zint.specs.Rules.{zneeds}
+use Rattle.pitch_settings.specs.SettingsLaws.{accepted}
+use Rattle.silk_stage2.specs.Stage2.{stage2}
+use Rattle.silk_stage2.specs.Theorem.{winner-range}
+use Rattle.silk_stage2.specs.declared.Stage2.{Stage2}
+use Rattle.silk_stage2.specs.declared.Stage2.the-variants.{Winner}
+use Rattle.silk_pitch_analysis.specs.Frame.{from-winner, last-stage}
+use Rattle.silk_pitch_analysis.specs.FrameLaws.{Won}
+use Rattle.silk_pitch_analysis.proofs.second_stage.Statement.{statement}
+use Rattle.silk_pitch_analysis.proofs.second_stage.Tie as tie
+
+-- stage 2's answer
+abbrev said : tie.After-silk-stage2 → Stage2
+said c =
+    let a = c .before .before .before .args in
+    stage2 (a .e .now) (a .kept .now) (a .s .rate) (a .s .nb) (a .s .complexity) (a .s .thres2) (a .prev-lag) (a .prev-corr)
+
+answer : (c : tie.After-silk-stage2) → c .silk-stage2 .result ≡ said c
+answer c =
+    let s = c .before .before .before in
+    let a = s .args in
+    c .silk-stage2 .ensures
+    ∙ (λ i. stage2 (a .e .now) (a .kept .now) (a .s .rate) (a .s .nb) (a .s .complexity) (r-elem w32 (a .s .thres2) (c .before .struct-told .given .1 .1 .1 .1 .0 .1) .val i) (r-var (s .fits .prev-lag) .val i) (r-var (s .fits .prev-corr) .val i))
+
+silk-stage2-requires : tie.Need-silk-stage2-requires
+silk-stage2-requires c κs =
+    let p = c .before .before .pre in
+    let a = accepted _ (p .0) in
+    record { rate = a .rate; subframes = a .subframes; complexity = omega (arith, a .complexity); long = omega (arith, p .1 .1 .0); lags = p .1 .1 .1 }
+
+enum-known-answer : tie.Need-enum-known-answer
+enum-known-answer c = search zneeds
+
+last-stage-requires : tie.Need-last-stage-requires
+last-stage-requires c κs =
+    let v = c .before in
+    let d = v .before .before in
+    let s = d .before .before .before in
+    let r = winner-range (s .args .e .now) (s .args .kept .now) (s .args .s .rate) (s .args .s .nb) (s .args .s .complexity) (s .args .s .thres2) (s .args .prev-lag) (s .args .prev-corr) _ _ _ (sym (answer d) ∙ v .answer .given .1) in
+    (s .pre .0, (s .pre .1 .0, record { low = r .0; high = r .1 .0; tried = r .1 .1 }))
+
+enum-told : tie.Need-enum-told
+enum-told c = search zneeds
+
+enum-told-2 : tie.Need-enum-told-2
+enum-told-2 c = search zneeds
+
+correlation-is : (c : tie.After-known-told) → toZ w32 (ofZ w32 (c .before .answer .given .0 .1 .1 .0)) ≡ c .before .answer .given .0 .1 .1 .0
+correlation-is c = search zneeds
+
+returns : tie.Need-returns
+returns c =
+    let k = c .before in
+    let v = k .before in
+    let d = v .before .before in
+    let s = d .before .before .before in
+    c .last-stage .ensures
+    ∙ ap (last-stage (s .args .s) (s .args .w .now) (v .answer .given .0 .0) (v .answer .given .0 .1 .0)) (correlation-is k)
+    ∙ ap (from-winner (s .args .s) (s .args .w .now)) (sym (v .answer .given .1) ∙ answer d)
+
+returns-2 : tie.Need-returns-2
+returns-2 c =
+    let d = c .before .before in
+    let s = d .before .before .before in
+    ap (from-winner (s .args .s) (s .args .w .now)) (sym (c .enum-told .given .1) ∙ answer d)
+
+returns-3 : tie.Need-returns-3
+returns-3 c =
+    let d = c .before .before in
+    let s = d .before .before .before in
+    ap (from-winner (s .args .s) (s .args .w .now)) (sym (c .enum-told2 .given .1) ∙ answer d)
+
+pub second-stage-spec : {M : Type 1} → statement M
+second-stage-spec = tie.close (tie.spec silk-stage2-requires enum-known-answer last-stage-requires enum-told enum-told-2 returns returns-2 returns-3)

@@ -1,0 +1,148 @@
+-- A frame: what `silk_pitch_analysis_core` answers for the settings s, the frame's samples x and the previous lag and correlation (document 01, "Three stages" and the row rules of
+-- "Track"; pitch_analysis.rs). Definitions only; what they say in words is in `Meaning`.
+use mathlib.Core.Bool.{Bool, cond}
+use mathlib.Core.List.{List}
+use Prim.Native.Nat.{ℕ, _*_, _/_}
+use lib.Dec.{eqb, ltb}
+use lib.IntN.{ℤ, pos, natAbs, _-ℤ_}
+use lib.ListN.{length, take}
+use Rattle.lists.specs.Fill.{filled}
+use Rattle.pitch_settings.specs.declared.Settings.{Settings}
+use Rattle.pitch_settings.specs.Settings.{settings-no, frame-length}
+use Rattle.pitch_table.specs.declared.Row.{Row}
+use Rattle.silk_signals.specs.Scale.{scaled}
+use Rattle.silk_signals.specs.Signals.{eight, four}
+use Rattle.silk_stage1.specs.Stage1.{stage1, kept}
+use Rattle.silk_stage1.specs.declared.Screen.{Screen}
+use Rattle.silk_stage1.specs.declared.Screen.the-variants.{ZeroDivisor as Zero1, Unvoiced as Unvoiced1, Goes}
+use Rattle.silk_stage2.specs.Stage2.{stage2}
+use Rattle.silk_stage2.specs.declared.Stage2.{Stage2}
+use Rattle.silk_stage2.specs.declared.Stage2.the-variants.{ZeroDivisor as Zero2, Unvoiced as Unvoiced2, Winner}
+use Rattle.silk_stage3.specs.Stage3.{stage3}
+use Rattle.silk_stage3.specs.declared.Found.{Found}
+use Rattle.silk_stage3.specs.declared.Found.the-variants.{Pair, ZeroDivisor as Zero3}
+use Rattle.silk_tables.specs.Rebuild.{rebuilt}
+use Rattle.silk_pitch_analysis.specs.declared.Verdict.{Verdict}
+use Rattle.silk_pitch_analysis.specs.declared.Verdict.the-variants.{Voiced, Unvoiced, ZeroDivisor}
+use Rattle.silk_pitch_analysis.specs.declared.Answer.{Answer}
+use Rattle.silk_pitch_analysis.specs.declared.Answer.the-variants.{Analysed, Refused}
+
+-- ---- the signals: the working frame w, its 8 kHz form e and its 4 kHz form f
+
+abbrev pub signal8 : Settings → List ℤ → List ℤ
+signal8 s w = eight (s .rate) w
+
+abbrev pub signal4 : Settings → List ℤ → List ℤ
+signal4 s w = four (signal8 s w)
+
+-- ---- the last stage
+
+-- "the scaled winner (stage 2's winning lag times fs / 8, rounded down)"
+unfoldable pub scaled-lag : ℕ → ℕ → ℕ
+scaled-lag fs lag = lag * fs / 8
+
+-- "In a row's pair the lag index is the lag less 2fs"
+abbrev pub from-pair : ℕ → ℤ → Found → Verdict
+from-pair fs corr (Pair lag contour) = Voiced (pos lag -ℤ pos (2 * fs)) (pos contour) corr
+from-pair fs corr Zero3 = ZeroDivisor
+
+-- "At 8 kHz stage 2 is the last stage .. its pair is the winning lag with its contour"; at 12 and 16 kHz stage 3 is
+unfoldable pub last-stage : Settings → List ℤ → ℕ → ℕ → ℤ → Verdict
+last-stage s w lag contour corr =
+    cond (eqb (s .rate) 8) (from-pair (s .rate) corr (Pair lag contour))
+    (from-pair (s .rate) corr (stage3 w (s .rate) (s .nb) (s .complexity) (scaled-lag (s .rate) lag)))
+
+-- ---- the stages in order: stage 2 is entered only where stage 1 goes on, the last stage only with a winner
+
+abbrev pub from-winner : Settings → List ℤ → Stage2 → Verdict
+from-winner s w (Winner lag contour corr) = last-stage s w lag contour corr
+from-winner s w Unvoiced2 = Unvoiced
+from-winner s w Zero2 = ZeroDivisor
+
+-- stage 2 on the signals e and f
+unfoldable pub second-stage : Settings → List ℤ → List ℤ → ℤ → ℤ → Stage2
+second-stage s e f prev corr = stage2 e (kept f (s .nb) (s .complexity) (s .thres1)) (s .rate) (s .nb) (s .complexity) (s .thres2) prev corr
+
+abbrev pub from-screen : Settings → List ℤ → List ℤ → List ℤ → ℤ → ℤ → Screen → Verdict
+from-screen s w e f prev corr Goes = from-winner s w (second-stage s e f prev corr)
+from-screen s w e f prev corr Unvoiced1 = Unvoiced
+from-screen s w e f prev corr Zero1 = ZeroDivisor
+
+-- all stages on a working frame w
+unfoldable pub staged : Settings → List ℤ → ℤ → ℤ → Verdict
+staged s w prev corr = from-screen s w (signal8 s w) (signal4 s w) prev corr (stage1 (signal4 s w) (s .nb) (s .complexity) (s .thres1) .screen)
+
+-- the frame x: "the working frame is the leading part of the caller's samples or of the scratch"
+unfoldable pub verdict-of : Settings → List ℤ → ℤ → ℤ → Verdict
+verdict-of s x prev corr = staged s (scaled x) prev corr
+
+-- ---- the row: "verdict (0 voiced, 1 unvoiced, 2 zero divisor), lag index, contour index, correlation, four lags"
+
+-- the lag of subframe k: the RFC's rebuilding of the pair; "Unvoiced and zero-divisor rows hold 0 after the verdict"
+abbrev pub lag-of : Settings → Verdict → ℕ → ℤ
+lag-of s (Voiced index contour corr) k = rebuilt (s .rate) (s .nb) index (natAbs contour) k
+lag-of s Unvoiced k = pos 0
+lag-of s ZeroDivisor k = pos 0
+
+-- "for nb 2 the last two lags are 0"
+unfoldable pub row-lag : Settings → Verdict → ℕ → ℤ
+row-lag s v k = cond (ltb k (s .nb)) (lag-of s v k) (pos 0)
+
+abbrev pub number-of : Verdict → ℤ
+number-of (Voiced index contour corr) = pos 0
+number-of Unvoiced = pos 1
+number-of ZeroDivisor = pos 2
+
+abbrev pub index-of : Verdict → ℤ
+index-of (Voiced index contour corr) = index
+index-of Unvoiced = pos 0
+index-of ZeroDivisor = pos 0
+
+abbrev pub contour-of : Verdict → ℤ
+contour-of (Voiced index contour corr) = contour
+contour-of Unvoiced = pos 0
+contour-of ZeroDivisor = pos 0
+
+abbrev pub correlation-of : Verdict → ℤ
+correlation-of (Voiced index contour corr) = corr
+correlation-of Unvoiced = pos 0
+correlation-of ZeroDivisor = pos 0
+
+unfoldable pub row-from : Settings → Verdict → Row
+row-from s v =
+    record {
+      verdict = number-of v;
+      index = index-of v;
+      contour = contour-of v;
+      correlation = correlation-of v;
+      lag0 = row-lag s v 0;
+      lag1 = row-lag s v 1;
+      lag2 = row-lag s v 2;
+      lag3 = row-lag s v 3;
+    }
+
+unfoldable pub row-of : Settings → List ℤ → ℤ → ℤ → Row
+row-of s x prev corr = row-from s (verdict-of s x prev corr)
+
+-- ---- the frame call: refusals 1 to 5 in order, by n samples and m lag places; 0 where there is none
+
+unfoldable pub frame-no : Settings → ℕ → ℕ → ℕ
+frame-no s n m = cond (eqb (settings-no s) 0) (cond (ltb n (frame-length s)) 4 (cond (ltb m (s .nb)) 5 0)) (settings-no s)
+
+-- the answer, and the lag places at exit
+pub record Outcome : Type 0 where
+  pub answer : Answer
+  pub lags : List ℤ
+
+abbrev pub outcome : Answer → List ℤ → Outcome
+outcome a l = record { answer = a; lags = l }
+
+-- the nb lag places are written, and the others kept
+unfoldable pub analysed : Settings → Verdict → List ℤ → Outcome
+analysed s v l = outcome (Analysed v) (filled (lag-of s v) (s .nb) l)
+
+-- a refusal changes no lag place; else the first N samples decide
+unfoldable pub frameOf : Settings → List ℤ → List ℤ → ℤ → ℤ → Outcome
+frameOf s x l prev corr =
+    cond (eqb (frame-no s (length x) (length l)) 0) (analysed s (verdict-of s (take (frame-length s) x) prev corr) l)
+    (outcome (Refused (frame-no s (length x) (length l))) l)

@@ -1,0 +1,122 @@
+-- Laws of a frame: its verdict's pair is one that the index code carries, and what the stages are handed.
+-- Assumes nothing.
+use mathlib.Core.Path.{_≡_, refl, sym, ap, _∙_, subst}
+use mathlib.Core.Bool.{Bool, true, false, cond}
+use mathlib.Core.List.{List}
+use mathlib.Core.Logic.{_⊎_, ⊎-elim}
+use Prim.Native.Nat.{ℕ, _+_, _-_, _*_, _/_, _≤_, _<_}
+use native.Mathlib.Omega.{arith}
+use borrow.Author.Tests.{eqb-true, eqb-false, ltb-false}
+use lib.Dec.{eqb, ltb}
+use lib.IntN.{ℤ, pos, natAbs, _-ℤ_}
+use lib.ListN.{length}
+use lib.Signed.{_<ℤ_}
+use Rattle.zint.specs.Diff.{eq-of, sub-ud′, of-lt, zarith}
+use Rattle.pitch_settings.specs.declared.Settings.{Settings}
+use Rattle.pitch_settings.specs.Settings.{settings-no, frame-length}
+use Rattle.pitch_settings.specs.SettingsLaws.{accepted}
+use Rattle.silk_tables.specs.Tables.{contours, contours2, in-use, greatest-index}
+use Rattle.silk_tables.specs.TableLaws.{in-use-bounds}
+use Rattle.silk_tables.specs.ContourLaws.{contours-le-34}
+use Rattle.silk_tables.specs.Rebuild.{Coded}
+use Rattle.silk_tables.specs.CarriedLaws.{Carried as CarriedPair, accepted-of, carried-pair, contour-abs, coded as pair-coded}
+use Rattle.silk_signals.specs.Signals.{eight, four}
+use Rattle.silk_signals.specs.SignalLaws.{length-eight, length-four}
+use Rattle.silk_stage3.specs.Stage3.{stage3, Handed}
+use Rattle.silk_stage3.specs.Theorem.{Meaning, stage3-means}
+use Rattle.silk_stage3.specs.declared.Found.the-variants.{Pair}
+use Rattle.silk_pitch_analysis.specs.declared.Verdict.{Verdict}
+use Rattle.silk_pitch_analysis.specs.declared.Verdict.the-variants.{Voiced, Unvoiced, ZeroDivisor}
+use Rattle.silk_pitch_analysis.specs.Frame.{from-pair, frame-no}
+
+-- a voiced verdict's pair has an index and a contour of these settings
+pub data Carried (s : Settings) : Verdict → Type 0 where
+  voiced : {index contour corr : ℤ} → CarriedPair (s .rate) (s .nb) (s .complexity) index contour → Carried s (Voiced index contour corr)
+  unvoiced : Carried s Unvoiced
+  zero-divisor : Carried s ZeroDivisor
+
+pub pair-of : {s : Settings} {index contour corr : ℤ} → Carried s (Voiced index contour corr) → CarriedPair (s .rate) (s .nb) (s .complexity) index contour
+pair-of (voiced p) = p
+
+pub pair-carried : (s : Settings) (corr : ℤ) (lag contour : ℕ) → 2 * s .rate ≤ lag → lag ≤ 2 * s .rate + greatest-index (s .rate) → contour < contours (s .rate) (s .nb) (s .complexity)
+    → Carried s (from-pair (s .rate) corr (Pair lag contour))
+pair-carried s corr lag contour l h c =
+    let e : pos (lag - 2 * s .rate) ≡ pos lag -ℤ pos (2 * s .rate) = eq-of _ _ (omega (arith, sub-ud′ (pos lag) (pos (2 * s .rate)))) in
+    voiced (subst (λ (i : ℤ). CarriedPair (s .rate) (s .nb) (s .complexity) i (pos contour)) e (carried-pair (omega arith) c))
+
+module _ (s : Settings) {index contour : ℤ} (p : CarriedPair (s .rate) (s .nb) (s .complexity) index contour) where
+  pub contour-small : natAbs contour < 34
+  contour-small =
+      omega (zarith, contours-le-34 (s .rate) (s .nb) (s .complexity), of-lt (subst (λ (z : ℤ). z <ℤ pos (contours (s .rate) (s .nb) (s .complexity))) (contour-abs p) (p .contour-lt)))
+
+  pub coded : settings-no s ≡ 0 → (k : ℕ) → k < s .nb → Coded (s .rate) (s .nb) index (natAbs contour) k
+  coded h k l =
+      let a = accepted s h in
+      pair-coded (accepted-of (a .rate) (record { subframes = a .subframes; at-least = a .nb-low; at-most = a .nb-high; complexity = omega (arith, a .complexity) })) p k l
+
+-- what the last stage is handed: a winner of stage 2, with a contour that stage 2 tries
+pub record Won (s : Settings) (lag contour : ℕ) : Type 0 where
+  pub low : 16 ≤ lag
+  pub high : lag ≤ 143
+  pub tried : contour < contours2 (s .rate) (s .nb) (s .complexity)
+
+-- ---- the scaled winner lies within 2 fs to 18 fs, so stage 3 is handed what it asks
+
+module _ (s : Settings) (w : List ℤ) (h : settings-no s ≡ 0) (len : length w ≡ frame-length s) (lag contour : ℕ) (won : Won s lag contour) where
+  pub handed : (s .rate ≡ 8 → ⊥) → Handed w (s .rate) (s .nb) (s .complexity) (lag * s .rate / 8)
+  unfolding frame-length
+  handed g =
+      let a = accepted s h in
+      let r : 12 ≤ s .rate = ⊎-elim (λ e. absurd (g e)) (λ k. ⊎-elim (λ e. omega arith) (λ e. omega arith) k) (a .rate) in
+      record {
+        settings = record { subframes = a .subframes; at-least = a .nb-low; at-most = a .nb-high; complexity = omega (arith, a .complexity) };
+        rate-low = r;
+        rate-high = a .rate-high;
+        long = ⊎-elim (λ e. let m : length w ≡ (20 + 5 * 2) * s .rate = len ∙ ap (λ (k : ℕ). (20 + 5 * k) * s .rate) e in rw e (omega arith)) (λ e. let m : length w ≡ (20 + 5 * 4) * s .rate = len ∙ ap (λ (k : ℕ). (20 + 5 * k) * s .rate) e in rw e (omega arith)) (a .subframes);
+        lag-low = ⊎-elim (λ e. absurd (g e)) (λ k. ⊎-elim (λ e. rw e (omega (arith, won .low))) (λ e. rw e (omega (arith, won .low))) k) (a .rate);
+        lag-high = ⊎-elim (λ e. absurd (g e)) (λ k. ⊎-elim (λ e. rw e (omega (arith, won .high))) (λ e. rw e (omega (arith, won .high))) k) (a .rate);
+      }
+
+  -- stage 3's pair: a lag within 2 fs to 18 fs, a contour in use
+  pub pair-lag : (g : s .rate ≡ 8 → ⊥) (d j : ℕ) → stage3 w (s .rate) (s .nb) (s .complexity) (lag * s .rate / 8) ≡ Pair d j
+      → (2 * s .rate ≤ d) × ((d ≤ 18 * s .rate) × (j < in-use (s .nb) (s .complexity)))
+  pair-lag g d j e =
+      let r = handed g in
+      let m : Meaning w (s .rate) (s .nb) (s .complexity) (lag * s .rate / 8) (Pair d j) = subst (Meaning w (s .rate) (s .nb) (s .complexity) (lag * s .rate / 8)) e (stage3-means w (s .rate) (s .nb) (s .complexity) (lag * s .rate / 8) r) in
+      ⊎-elim
+      (λ b. (b .candidate .tried .at-least, (b .candidate .tried .at-most, b .candidate .used)))
+      (λ z. let u = in-use-bounds (r .settings) in (omega (arith, z .1, r .lag-low), (omega (arith, z .1, r .lag-high), omega (arith, z .2))))
+      (m .1)
+
+-- ---- the signals of a working frame
+
+module _ (s : Settings) (w : List ℤ) (h : settings-no s ≡ 0) (len : length w ≡ frame-length s) where
+  pub eight-length : length (eight (s .rate) w) ≡ (20 + 5 * s .nb) * 8
+  unfolding frame-length
+  eight-length = length-eight (record { rate = accepted s h .rate; size = len })
+
+  pub four-length : length (four (eight (s .rate) w)) ≡ (20 + 5 * s .nb) * 4
+  four-length = length-four (eight (s .rate) w) ∙ omega (arith, eight-length)
+
+  -- at 12 kHz a frame has at most 480 samples
+  pub at-12 : s .rate ≡ 12 → length w ≤ 480
+  unfolding frame-length
+  at-12 e = rw (len, e) (omega (arith, accepted s h .nb-high))
+
+-- ---- a frame that is not refused
+
+pub record Taken (s : Settings) (n m : ℕ) : Type 0 where
+  pub settings : settings-no s ≡ 0
+  pub samples : frame-length s ≤ n
+  pub places : s .nb ≤ m
+
+pub taken : (s : Settings) (n m : ℕ) → frame-no s n m ≡ 0 → Taken s n m
+unfolding frame-no
+taken s n m h = by (eqb (settings-no s) 0) (ltb n (frame-length s)) (ltb m (s .nb)) refl refl refl h
+  where
+    by : (t u v : Bool) → eqb (settings-no s) 0 ≡ t → ltb n (frame-length s) ≡ u → ltb m (s .nb) ≡ v
+        → _≡_ {A = ℕ} (cond t (cond u 4 (cond v 5 0)) (settings-no s)) 0 → Taken s n m
+    by true true v p q r e = absurd (omega arith)
+    by true false true p q r e = absurd (omega arith)
+    by true false false p q r e = record { settings = eqb-true (settings-no s) 0 p; samples = ltb-false n (frame-length s) q; places = ltb-false m (s .nb) r }
+    by false u v p q r e = absurd (eqb-false (settings-no s) 0 p e)

@@ -1,0 +1,4 @@
+-- The frame: definitions in `Frame`; that its pair is carried in `VerdictLaws`.
+pub mod Frame
+pub mod FrameLaws
+pub mod VerdictLaws
