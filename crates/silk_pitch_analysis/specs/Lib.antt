@@ -2,3 +2,5 @@
 pub mod Frame
 pub mod FrameLaws
 pub mod VerdictLaws
+pub mod Meaning
+pub mod Theorem
