@@ -1,0 +1,15 @@
+-- Worked cases of document 01: the frames in 319, 320, 479 and 480 samples at 8 kHz with nb 4.
+use Prim.Native.Nat.{ℕ}
+use mathlib.Core.Path.{_≡_, refl}
+use mathlib.Core.List.{List, [], _∷_, map}
+use lib.IntN.{pos}
+use Rattle.pitch_settings.specs.declared.Settings.{Settings}
+use Rattle.pitch_settings.specs.Settings.{frame-length, hop-length}
+use Rattle.pitch_track.specs.Paper.{F, framesIn}
+
+abbrev eight : Settings
+eight = record { rate = 8; nb = 4; complexity = 0; thres1 = pos 0; thres2 = pos 0 }
+
+pub cases : map (F eight) (319 ∷ 320 ∷ 479 ∷ 480 ∷ []) ≡ 0 ∷ 1 ∷ 1 ∷ 2 ∷ []
+unfolding framesIn frame-length hop-length
+cases = refl

@@ -1,0 +1,39 @@
+-- The two cases of `deliverOf`.
+use Prim.Native.Nat.{ℕ, _+_, _-_, _*_}
+use mathlib.Core.Path.{_≡_, refl, sym, ap, _∙_}
+use mathlib.Core.List.{List, _++_}
+use lib.IntN.{ℤ}
+use native.Mathlib.Omega.{arith}
+use lib.ListN.{length, take, drop, length-drop}
+use lib.Seq.{take-all}
+use borrow.Author.Tests.{eq-eqb, ne-eqb}
+use Rattle.pitch_track.specs.declared.Track.{Track}
+use Rattle.pitch_track.specs.declared.Answer.the-variants.{Accepted, Refused}
+use Rattle.pitch_settings.specs.Settings.{hop-length}
+use Rattle.pitch_track.specs.Paper.{F, before, rowsOf}
+use Rattle.pitch_track.specs.Step.{padded, pendingOf, prevOf, noOf, outcome, acceptedOf, deliverOf}
+
+module _ (tr : Track) (t d : List ℤ) where
+  pub refuses : (noOf tr t d ≡ 0 → ⊥) → deliverOf tr t d ≡ outcome (record { answer = Refused (noOf tr t d); track = tr }) t
+  unfolding deliverOf
+  refuses h = rw (ne-eqb (noOf tr t d) 0 h)
+
+  pub accepts : noOf tr t d ≡ 0 → deliverOf tr t d ≡ acceptedOf tr t d (F (tr .settings) (tr .count + length d))
+  unfolding deliverOf
+  accepts h = rw (eq-eqb (noOf tr t d) 0 h)
+
+  pub made : (k n : ℕ) (held : List ℤ) (left : ℕ) (lag corr : ℤ) (table : List ℤ)
+      → n ≡ tr .frames + k
+      → held ≡ padded (drop (k * hop-length (tr .settings)) (pendingOf tr d))
+      → left ≡ tr .count + length d - k * hop-length (tr .settings)
+      → lag ≡ before (tr .settings) (pendingOf tr d) (prevOf tr) k .lag
+      → corr ≡ before (tr .settings) (pendingOf tr d) (prevOf tr) k .correlation
+      → table ≡ take (tr .frames * 8) t ++ rowsOf (tr .settings) (pendingOf tr d) (prevOf tr) k ++ drop ((tr .frames + k) * 8) t
+      → outcome (record { answer = Accepted n; track = record { settings = tr .settings; frames = n; held = held; count = left; lag = lag; correlation = corr } }) table
+      ≡ acceptedOf tr t d k
+  unfolding acceptedOf
+  made k n held left lag corr table a b c d e f = rw (a, b, c, d, e, f)
+
+-- what is gathered after the last new frame's start is all that is left
+pub kept : (x : List ℤ) (from left : ℕ) → length x ≡ from + left → take left (drop from x) ≡ drop from x
+kept x from left e = take-all left (drop from x) (rw length-drop (omega arith))

@@ -1,0 +1,12 @@
+-- The laws that belong to no one function.
+pub mod Frames
+pub mod Back
+pub mod Refusals
+pub mod Lists
+pub mod Rows
+pub mod Deliver
+pub mod Demand3
+pub mod Ahead
+pub mod Relational
+pub mod Cases
+pub mod Words

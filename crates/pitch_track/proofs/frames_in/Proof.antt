@@ -1,0 +1,27 @@
+-- `pitch_track::frames_in` meets its contract: the test says which case of `framesIn` holds.
+-- Assumes nothing.
+use native.Mathlib.Omega.{arith}
+use native.Mathlib.Nat.{div-le-self}
+use Prim.Native.Nat.{_-_}
+use borrow.Author.Tests.{lt-ltb, le-ltb}
+use Rattle.pitch_track.specs.Paper.{framesIn}
+use borrow.Author.Needs.{needs}
+use Rattle.pitch_track.proofs.frames_in.Statement.{statement}
+use Rattle.pitch_track.proofs.frames_in.Tie as tie
+
+returns : tie.Need-returns
+unfolding framesIn
+returns c = rw (lt-ltb _ _ (c .if1 .taken))
+
+div-result : tie.Need-div-result
+div-result c = search needs
+
+add-result : tie.Need-add-result
+add-result c = omega (arith, div-le-self (c .before .args .n - c .before .args .len) (c .before .args .hop))
+
+returns-2 : tie.Need-returns-2
+unfolding framesIn
+returns-2 c = rw (le-ltb _ _ (c .if1 .left))
+
+pub frames-in-spec : {M : Type 1} → statement M
+frames-in-spec = tie.close (tie.spec returns div-result add-result returns-2)

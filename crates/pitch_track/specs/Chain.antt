@@ -1,0 +1,102 @@
+-- Demand 3: a chain of deliveries from a fresh start, and what the track on paper says of all of it.
+use Prim.Native.Nat.{ℕ, _+_, _-_, _*_, _/_, _≤_, _<_}
+use mathlib.Core.Path.{_≡_}
+use mathlib.Core.List.{List, [], _∷_, _++_}
+use lib.IntN.{ℤ}
+use lib.ListN.{length, take, drop}
+use Rattle.pitch_settings.specs.declared.Settings.{Settings}
+use Rattle.pitch_track.specs.declared.Track.{Track}
+use Rattle.pitch_track.specs.declared.Answer.{Answer}
+use Rattle.pitch_track.specs.declared.Answer.the-variants.{Accepted, Refused}
+use Rattle.pitch_table.specs.Row.{numbers}
+use Rattle.pitch_track.specs.Paper.{before, nothing, windowOf, rowAt, rowsOf, joined, answers, framesDone, samplesHeld, tableOf}
+use Rattle.pitch_track.specs.Words.{RowSays}
+use Rattle.pitch_track.specs.Step.{Outcome, padded, startOf, deliverOf}
+
+-- what a chain of calls leaves: each call's answer, and the state and the table at the end
+pub record Left : Type 0 where
+  pub said : List Answer
+  pub track : Track
+  pub table : List ℤ
+
+-- a call's answer stands before those of the calls that follow it
+abbrev pub then : Outcome → Left → Left
+then o l = record { said = o .delivered .answer ∷ l .said; track = l .track; table = l .table }
+
+-- each call has the state that the call before handed back, and the table as that call left it
+unfoldable pub chainOf : Track → List ℤ → List (List ℤ) → Left
+chainOf tr t [] = record { said = []; track = tr; table = t }
+chainOf tr t (d ∷ ds) = then (deliverOf tr t d) (chainOf (deliverOf tr t d .delivered .track) (deliverOf tr t d .table) ds)
+
+-- the chain from a fresh start
+abbrev pub runOf : Settings → List ℤ → List (List ℤ) → Left
+runOf s t ds = chainOf (startOf s .track) t ds
+
+-- J at the end of the list, on paper
+abbrev pub finalJ : Settings → List ℤ → List (List ℤ) → List ℤ
+finalJ s t ds = joined s (length t / 8) [] ds
+
+-- the claim about the whole list
+pub record Demand3 (s : Settings) (t : List ℤ) (ds : List (List ℤ)) : Type 0 where
+  pub said : runOf s t ds .said ≡ answers s (length t / 8) [] ds
+  pub frames : runOf s t ds .track .frames ≡ framesDone s (finalJ s t ds)
+  pub held : take (runOf s t ds .track .count) (runOf s t ds .track .held) ≡ samplesHeld s (finalJ s t ds)
+  pub rows : (i : ℕ) → i < framesDone s (finalJ s t ds) → take 8 (drop (i * 8) (runOf s t ds .table)) ≡ numbers (rowAt s (finalJ s t ds) nothing i)
+  pub others : drop (framesDone s (finalJ s t ds) * 8) (runOf s t ds .table) ≡ drop (framesDone s (finalJ s t ds) * 8) t
+  pub size : length (runOf s t ds .table) ≡ length t
+
+-- the samples of the deliveries that were accepted, joined, by what was said of each
+abbrev pub keptIf : Answer → List ℤ → List ℤ
+keptIf (Accepted f) d = d
+keptIf (Refused n) d = []
+
+unfoldable pub kept : List Answer → List (List ℤ) → List ℤ
+kept [] ds = []
+kept (a ∷ rest) [] = []
+kept (a ∷ rest) (d ∷ ds) = keptIf a d ++ kept rest ds
+
+-- the finished rows that a chain left
+abbrev pub finished : Left → List ℤ
+finished l = take (l .track .frames * 8) (l .table)
+
+-- the state on paper: that of a track whose accepted samples are j
+unfoldable pub stateOf : Settings → List ℤ → Track
+stateOf s j =
+    record {
+      settings = s;
+      frames = framesDone s j;
+      held = padded (samplesHeld s j);
+      count = length (samplesHeld s j);
+      lag = before s j nothing (framesDone s j) .lag;
+      correlation = before s j nothing (framesDone s j) .correlation;
+    }
+
+-- an answer as one number: 0, or the refusal's
+abbrev pub numberOf : Answer → ℕ
+numberOf (Accepted f) = 0
+numberOf (Refused n) = n
+
+-- the parts of x that have these lengths, one after the other
+unfoldable pub partsOf : List ℕ → List ℤ → List (List ℤ)
+partsOf [] x = []
+partsOf (n ∷ ns) x = take n x ∷ partsOf ns (drop n x)
+
+unfoldable pub total : List ℕ → ℕ
+total [] = 0
+total (n ∷ ns) = n + total ns
+
+unfoldable pub numbersOf : List Answer → List ℕ
+numbersOf [] = []
+numbersOf (a ∷ rest) = numberOf a ∷ numbersOf rest
+
+-- what a run of the code leaves: its answers' numbers, its track and its table are those of the track on paper
+pub record Ended (s : Settings) (t : List ℤ) (ds : List (List ℤ)) (said : List ℕ) (track : Track) (table : List ℤ) : Type 0 where
+  pub answers-are : said ≡ numbersOf (answers s (length t / 8) [] ds)
+  pub frames-are : track .frames ≡ framesDone s (finalJ s t ds)
+  pub held-are : take (track .count) (track .held) ≡ samplesHeld s (finalJ s t ds)
+  pub rows-are : (i : ℕ) → i < framesDone s (finalJ s t ds) → take 8 (drop (i * 8) table) ≡ numbers (rowAt s (finalJ s t ds) nothing i)
+  pub others-are : drop (framesDone s (finalJ s t ds) * 8) table ≡ drop (framesDone s (finalJ s t ds) * 8) t
+  pub rows-say : (i : ℕ) → i < framesDone s (finalJ s t ds)
+      → RowSays s (windowOf s (finalJ s t ds) i) (before s (finalJ s t ds) nothing i .lag) (before s (finalJ s t ds) nothing i .correlation) (rowAt s (finalJ s t ds) nothing i)
+  pub state-is : track ≡ stateOf s (finalJ s t ds)
+  pub table-is : table ≡ tableOf s t (finalJ s t ds)

@@ -1,0 +1,4 @@
+pub mod Paper
+pub mod Step
+pub mod Chain
+pub mod Words

@@ -1,0 +1,280 @@
+// A pitch track that is fed by deliveries of samples: start, deliver, and a whole chain of deliveries.
+ghost use mathlib.Core.Path.{_≡_};
+ghost use mathlib.Core.List.{_++_};
+ghost use Prim.Native.Nat.{_+_, _-_, _*_, _<_, _≤_};
+ghost use lib.ListN.{length, take, drop, getD};
+ghost use lib.IntN.{pos};
+ghost use Rattle.pitch_settings.specs.Settings.{settings-no, frame-length, hop-length};
+ghost use Rattle.pitch_track.specs.Paper.{framesIn, rowOf, after, before, rowsOf};
+ghost use Rattle.pitch_track.specs.Chain.{numberOf, partsOf, total, Ended};
+ghost use Rattle.pitch_track.specs.Step.{padded, startOf, refusalOf, deliverOf, outcome, zeros};
+use pitch_settings::Settings;
+use pitch_settings::frame_length;
+use pitch_settings::hop_length;
+use pitch_settings::settings_no;
+use pitch_table::Row;
+use pitch_table::put_row;
+use silk_pitch_analysis::frame_row;
+
+// The lag of a row's last subframe and its correlation.
+pub struct Prev {
+    pub lag: i32,
+    pub correlation: i32,
+}
+
+pub struct Track {
+    pub settings: Settings,
+    pub frames: usize,
+    pub held: [i16; 640],
+    pub count: usize,
+    pub lag: i32,
+    pub correlation: i32,
+}
+
+pub enum Answer {
+    Accepted(usize),
+    Refused(usize),
+}
+
+pub struct Started {
+    pub answer: Answer,
+    pub track: Track,
+}
+
+pub struct Delivered {
+    pub answer: Answer,
+    pub track: Track,
+}
+
+fn frames_in(len: usize, hop: usize, n: usize) -> usize
+    requires { ⌜ (0 < hop) × (hop ≤ len) ⌝ }
+    ensures { λ r. ⌜ r ≡ framesIn len hop n ⌝ }
+{
+    if n < len {
+        return 0;
+    }
+    1 + (n - len) / hop
+}
+
+// The refusal of a delivery, or 0.
+fn refusal(s: Settings, frames: usize, count: usize, d: usize, numbers: usize) -> usize
+    requires { ⌜ d < 4611686018427387904 ⌝ }
+    ensures { λ r. ⌜ r ≡ refusalOf s frames count d numbers ⌝ }
+{
+    let no = settings_no(s);
+    if no != 0 {
+        return no;
+    }
+    if frames > 4096 {
+        return 6;
+    }
+    if count > 4611686018427387904 {
+        return 6;
+    }
+    let len = frame_length(s);
+    let hop = hop_length(s);
+    let new = frames_in(len, hop, count + d);
+    if new > 4096 - frames {
+        return 6;
+    }
+    if count >= len {
+        return 9;
+    }
+    if new > 0 {
+        if frames + new > numbers / 8 {
+            return 7;
+        }
+    }
+    0
+}
+
+// What a row leaves to the next.
+fn left_by(s: Settings, r: Row) -> Prev
+    ensures { λ p. ⌜ p ≡ after s r ⌝ }
+{
+    let correlation = r.correlation;
+    if s.nb == 2 {
+        let lag = r.lag1;
+        return Prev { lag, correlation };
+    }
+    let lag = r.lag3;
+    Prev { lag, correlation }
+}
+
+// Sample p of the samples held and then those delivered.
+fn sample_at(held: &[i16], count: usize, samples: &[i16], p: usize) -> i16
+    requires { ⌜ (count ≤ length (now held)) × (p < count + length (now samples)) ⌝ }
+    ensures { λ r. ⌜ r ≡ getD (take count (now (held .entry)) ++ now (samples .entry)) p (pos 0) ⌝ }
+{
+    if p < count {
+        return held[p];
+    }
+    samples[p - count]
+}
+
+// The `size` samples from `from` on, of those held and then those delivered; the other places are 0.
+fn gather(held: &[i16], count: usize, samples: &[i16], from: usize, size: usize) -> [i16; 640]
+    requires { ⌜ (count ≤ length (now held)) × (from + size ≤ count + length (now samples)) × (size ≤ 640) ⌝ }
+    ensures { λ r. ⌜ r ≡ padded (take size (drop from (take count (now (held .entry)) ++ now (samples .entry)))) ⌝ }
+{
+    let mut out = [0i16; 640];
+    let mut j = 0;
+    while j < size {
+        let x = sample_at(held, count, samples, from + j);
+        out[j] = x;
+        j += 1;
+    }
+    out
+}
+
+// The row of the frame that starts at `from`.
+fn window_row(s: Settings, held: &[i16], count: usize, samples: &[i16], from: usize, p: Prev) -> Row
+    requires { ⌜ (settings-no s ≡ 0) × (count ≤ length (now held)) × (from + frame-length s ≤ count + length (now samples)) ⌝ }
+    ensures { λ r. ⌜ r ≡ rowOf s (take (frame-length s) (drop from (take count (now (held .entry)) ++ now (samples .entry)))) p ⌝ }
+{
+    let len = frame_length(s);
+    let buffer = gather(held, count, samples, from, len);
+    let lag = p.lag;
+    let correlation = p.correlation;
+    frame_row(s, &buffer[..len], lag, correlation)
+}
+
+// `new` rows, from row `frames` of the table on.
+fn put_rows(
+    s: Settings,
+    held: &[i16],
+    count: usize,
+    samples: &[i16],
+    table: &mut [i32],
+    frames: usize,
+    new: usize,
+    p: Prev,
+) -> Prev
+    requires { ⌜ (settings-no s ≡ 0)
+        × (count ≤ length (now held))
+        × (new ≡ framesIn (frame-length s) (hop-length s) (count + length (now samples)))
+        × (0 < new → (frames + new) * 8 ≤ length (now table)) ⌝ }
+    ensures { λ r. ⌜ r ≡ before s (take count (now (held .entry)) ++ now (samples .entry)) p new ⌝ }
+    ensures { λ _. ⌜ now (table .exit)
+        ≡ take (frames * 8) (now (table .entry))
+        ++ rowsOf s (take count (now (held .entry)) ++ now (samples .entry)) p new
+        ++ drop ((frames + new) * 8) (now (table .entry)) ⌝ }
+{
+    let hop = hop_length(s);
+    let mut q = p;
+    let mut from = 0;
+    let mut k = 0;
+    while k < new {
+        let row = window_row(s, held, count, samples, from, q);
+        put_row(table, frames + k, row);
+        q = left_by(s, row);
+        from += hop;
+        k += 1;
+    }
+    q
+}
+
+impl Track {
+    pub fn start(s: Settings) -> Started
+        ensures { λ r. ⌜ r ≡ startOf s ⌝ }
+    {
+        let no = settings_no(s);
+        let answer = if no == 0 {
+            Answer::Accepted(0)
+        } else {
+            Answer::Refused(no)
+        };
+        let zeros = [0i16; 640];
+        let track = Track {
+            settings: s,
+            frames: 0,
+            held: zeros,
+            count: 0,
+            lag: 0,
+            correlation: 0,
+        };
+        Started { answer, track }
+    }
+
+    pub fn deliver(mut self, samples: &[i16], table: &mut [i32]) -> Delivered
+        ensures { λ r. ⌜ outcome r (now (table .exit)) ≡ deliverOf self (now (table .entry)) (now (samples .entry)) ⌝ }
+    {
+        let s = self.settings;
+        let frames = self.frames;
+        let count = self.count;
+        let no = refusal(s, frames, count, samples.len(), table.len());
+        if no != 0 {
+            let answer = Answer::Refused(no);
+            return Delivered {
+                answer,
+                track: self,
+            };
+        }
+        let len = frame_length(s);
+        let hop = hop_length(s);
+        let n = count + samples.len();
+        let new = frames_in(len, hop, n);
+        let held = self.held;
+        let p = Prev {
+            lag: self.lag,
+            correlation: self.correlation,
+        };
+        let q = put_rows(s, &held, count, samples, table, frames, new, p);
+        let from = new * hop;
+        let left = n - from;
+        let rest = gather(&held, count, samples, from, left);
+        let done = frames + new;
+        self.frames = done;
+        self.held = rest;
+        self.count = left;
+        let lag = q.lag;
+        let correlation = q.correlation;
+        self.lag = lag;
+        self.correlation = correlation;
+        let answer = Answer::Accepted(done);
+        Delivered {
+            answer,
+            track: self,
+        }
+    }
+}
+
+// An answer as one number: 0, or the refusal's.
+pub fn number(a: Answer) -> usize
+    ensures { λ r. ⌜ r ≡ numberOf a ⌝ }
+{
+    match a {
+        Answer::Accepted(_) => 0,
+        Answer::Refused(n) => n,
+    }
+}
+
+// A whole chain of deliveries, from a fresh start: the parts of `samples` whose lengths are `cuts`. `said` gets a number for each.
+pub fn run(
+    s: Settings,
+    samples: &[i16],
+    cuts: &[usize],
+    table: &mut [i32],
+    said: &mut [usize],
+) -> Track
+    requires { ⌜ (settings-no s ≡ 0) × (total (now cuts) ≤ length (now samples)) × (length (now said) ≡ length (now cuts)) ⌝ }
+    ensures { λ r. ⌜ Ended s (now (table .entry)) (partsOf (now (cuts .entry)) (now (samples .entry))) (now (said .exit)) r (now (table .exit)) ⌝ }
+{
+    let started = Track::start(s);
+    let mut track = started.track;
+    let mut at = 0;
+    let mut i = 0;
+    while i < cuts.len() {
+        let n = cuts[i];
+        let end = at + n;
+        let part = &samples[at..end];
+        let d = track.deliver(part, table);
+        let next = d.track;
+        track = next;
+        let a = d.answer;
+        said[i] = number(a);
+        at = end;
+        i += 1;
+    }
+    track
+}
