@@ -1,0 +1,26 @@
+-- `cases_frames::samples_of` meets its contract: settings that are not refused have at most 640 samples. Assumes nothing.
+use mathlib.Core.Path.{_≡_}
+use native.Mathlib.Omega.{arith}
+use Rattle.pitch_settings.specs.Settings.{settings-no}
+use Rattle.pitch_settings.specs.SettingsLaws.{accepted}
+use borrow.Author.Needs.{needs}
+use Rattle.cases_frames.proofs.samples_of.Statement.{statement}
+use Rattle.cases_frames.proofs.samples_of.Tie as tie
+
+settings-no-requires : tie.Need-settings-no-requires
+settings-no-requires c κs = search needs
+
+returns : tie.Need-returns
+returns c = search needs
+
+frame-length-requires : tie.Need-frame-length-requires
+frame-length-requires c κs = search needs
+
+returns-2 : tie.Need-returns-2
+returns-2 c =
+    let s = c .before .before .before .args .s in
+    let h : settings-no s ≡ 0 = search needs in
+    omega (arith, accepted s h .small)
+
+pub samples-of-spec : {M : Type 1} → statement M
+samples-of-spec = tie.close (tie.spec settings-no-requires returns frame-length-requires returns-2)
