@@ -15,7 +15,7 @@ use Rattle.pitch_track.specs.Paper.{framesDone}
 use Rattle.pitch_track.specs.Step.{Outcome, outcome, startOf, deliverOf}
 use Rattle.pitch_track.specs.Chain.{Left, then, chainOf, runOf, finalJ, numberOf, numbersOf, partsOf, total, Ended}
 use Rattle.pitch_track.proofs.Words.{rows-say}
-use Rattle.pitch_track.proofs.Demand3.{demand3, equation}
+use Rattle.pitch_track.proofs.OnPaper.{on-paper, equation}
 
 -- the whole chain leaves what its rest leaves, with the i answers that are there before it
 pub record Ahead (a : Left) (said : List ℕ) (i : ℕ) (b : Left) : Type 0 where
@@ -79,7 +79,7 @@ pub ended : (s : Settings) → settings-no s ≡ 0 → (t : List ℤ) (ds : List
     → length said ≤ i → Ahead (runOf s t ds) said i (record { said = []; track = tr; table = table }) → Ended s t ds said tr table
 unfolding numbersOf
 ended s ok t ds said tr table i h p =
-    let q = demand3 s ok t ds in
+    let q = on-paper s ok t ds in
     record {
       answers-are = sym (p .numbers ∙ append-nil (take i said) ∙ take-all i said h) ∙ ap numbersOf (q .said);
       frames-are = ap (λ (x : Track). x .frames) (sym (p .tracks)) ∙ q .frames;

@@ -5,7 +5,7 @@ pub mod Refusals
 pub mod Lists
 pub mod Rows
 pub mod Deliver
-pub mod Demand3
+pub mod OnPaper
 pub mod Ahead
 pub mod Relational
 pub mod Cases

@@ -16,7 +16,7 @@ use Rattle.pitch_track.specs.Paper.{rowOf, after, windowOf, before, noth
 use Rattle.pitch_track.specs.Chain.{runOf, finalJ}
 use Rattle.pitch_settings.specs.SettingsLaws.{Accepted, accepted}
 use Rattle.pitch_track.proofs.Frames.{fits}
-use Rattle.pitch_track.proofs.Demand3.{demand3}
+use Rattle.pitch_track.proofs.OnPaper.{on-paper}
 
 module _ (IsRow : Settings → List ℤ → Prev → Row → Type 0)
     (sound : (s : Settings) → settings-no s ≡ 0 → (x : List ℤ) → length x ≡ frame-length s → (p : Prev) → IsRow s x p (rowOf s x p))
@@ -59,4 +59,4 @@ module _ (IsRow : Settings → List ℤ → Prev → Row → Type 0)
   -- the finished rows are those that the relation names
   pub rows-by : (s : Settings) → settings-no s ≡ 0 → (t : List ℤ) (ds : List (List ℤ)) (row : ℕ → Row) → AreRows s (finalJ s t ds) row
       → (i : ℕ) → i < framesDone s (finalJ s t ds) → take 8 (drop (i * 8) (runOf s t ds .table)) ≡ numbers (row i)
-  rows-by s ok t ds row h i q = demand3 s ok t ds .rows i q ∙ ap numbers (sym (only s ok (finalJ s t ds) row h i q))
+  rows-by s ok t ds row h i q = on-paper s ok t ds .rows i q ∙ ap numbers (sym (only s ok (finalJ s t ds) row h i q))

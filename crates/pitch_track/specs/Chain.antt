@@ -1,4 +1,4 @@
--- Demand 3: a chain of deliveries from a fresh start, and what the track on paper says of all of it.
+-- A chain of deliveries from a fresh start, and what the track on paper says of all of it (the order's third demand).
 use Prim.Native.Nat.{ℕ, _+_, _-_, _*_, _/_, _≤_, _<_}
 use mathlib.Core.Path.{_≡_}
 use mathlib.Core.List.{List, [], _∷_, _++_}
@@ -37,7 +37,7 @@ abbrev pub finalJ : Settings → List ℤ → List (List ℤ) → List ℤ
 finalJ s t ds = joined s (length t / 8) [] ds
 
 -- the claim about the whole list
-pub record Demand3 (s : Settings) (t : List ℤ) (ds : List (List ℤ)) : Type 0 where
+pub record OnPaper (s : Settings) (t : List ℤ) (ds : List (List ℤ)) : Type 0 where
   pub said : runOf s t ds .said ≡ answers s (length t / 8) [] ds
   pub frames : runOf s t ds .track .frames ≡ framesDone s (finalJ s t ds)
   pub held : take (runOf s t ds .track .count) (runOf s t ds .track .held) ≡ samplesHeld s (finalJ s t ds)

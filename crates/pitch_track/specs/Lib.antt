@@ -1,3 +1,4 @@
+-- The track: `Paper` is document 01's track on paper, `Step` what one call says, `Chain` the claim over a list of deliveries, `Words` what each row says.
 pub mod Paper
 pub mod Step
 pub mod Chain

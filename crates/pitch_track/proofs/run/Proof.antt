@@ -1,4 +1,4 @@
--- `pitch_track::run` meets its contract, demand 3. The invariant: the whole chain leaves what the rest of it leaves from here, with i answers before it.
+-- `pitch_track::run` meets its contract, the claim over the list of deliveries. The invariant: the whole chain leaves what the rest of it leaves from here, with i answers before it.
 -- Assumes nothing.
 use borrow.Author.Needs.{needs}
 use mathlib.Core.Path.{_≡_, refl, sym, ap, subst, _∙_}

@@ -1,4 +1,4 @@
--- Demand 3: one call takes the state on paper of J to that of J after the delivery, and so a chain of calls from a fresh start does.
+-- The claim over a list of deliveries: one call takes the state on paper of J to that of J after the delivery, and so a chain of calls from a fresh start does.
 use Prim.Native.Nat.{ℕ, zero, suc, _+_, _-_, _*_, _/_, _≤_, _<_}
 use mathlib.Core.Path.{_≡_, refl, sym, ap, _∙_}
 use mathlib.Core.List.{List, [], _∷_, _++_, append-assoc, append-nil}
@@ -18,7 +18,7 @@ use Rattle.pitch_settings.specs.Settings.{frame-length, hop-length, settings-no
 use Rattle.pitch_table.specs.Row.{numbers}
 use Rattle.pitch_track.specs.Paper.{F, before, nothing, rowAt, rowsOf, paperNo, joinedBy, answerTo, joined, answers, framesDone, samplesHeld, tableOf}
 use Rattle.pitch_track.specs.Step.{Outcome, outcome, padded, startOf, freshOf, zeros, refusalOf, noOf, pendingOf, prevOf, acceptedOf, deliverOf}
-use Rattle.pitch_track.specs.Chain.{Left, then, chainOf, runOf, finalJ, stateOf, Demand3, kept, keptIf, finished}
+use Rattle.pitch_track.specs.Chain.{Left, then, chainOf, runOf, finalJ, stateOf, OnPaper, kept, keptIf, finished}
 use Rattle.pitch_track.proofs.Frames.{lt-or-le, short, fits, rest, starts, parts, eq-or-ne}
 use Rattle.pitch_settings.specs.SettingsLaws.{Accepted as Sized, accepted}
 use Rattle.pitch_track.proofs.Refusals.{six, seven, room, none}
@@ -291,9 +291,9 @@ module _ (s : Settings) (ok : settings-no s ≡ 0) where
     equation ds = ap (λ (tr : Track). chainOf tr t ds) fresh ∙ ap (λ (l : List ℤ). chainOf (stateOf s []) l ds) bare ∙ chain ds [] reached-none
 
     -- DEMAND 3, part by part
-    pub demand3 : (ds : List (List ℤ)) → Demand3 s t ds
+    pub on-paper : (ds : List (List ℤ)) → OnPaper s t ds
     unfolding stateOf tableOf
-    demand3 ds =
+    on-paper ds =
         let j : List ℤ = finalJ s t ds in
         let e = equation ds in
         let r : Reached s t (finalJ s t ds) = reach-all ds [] reached-none in
