@@ -1,10 +1,9 @@
 -- Laws of decimal numbers: the last digit, how many digits there are, and text that is written in parts.
 -- Assumes nothing.
-use mathlib.Core.Path.{_≡_, refl, sym, ap, ap₂, _∙_, subst}
-use mathlib.Core.Bool.{Bool, cond}
+use mathlib.Core.Path.{_≡_, ap, _∙_}
+use mathlib.Core.Bool.{cond}
 use mathlib.Core.List.{List, [], _∷_, _++_}
-use mathlib.Core.Logic.{_⊎_, ⊎-elim}
-use Prim.Native.Nat.{ℕ, zero, suc, _+_, _*_, _/_, _%_, _^_, _≤_, _<_}
+use Prim.Native.Nat.{ℕ, zero, suc, _+_, _/_, _%_, _^_, _≤_, _<_}
 use native.Mathlib.Decide.{decLt}
 use native.Mathlib.Nat.{add-zero}
 use native.Mathlib.Omega.{arith}
@@ -12,6 +11,8 @@ use borrow.Author.Tests.{lt-ltb, le-ltb}
 use lib.Dec.{ltb}
 use lib.ListN.{length, set, length-append}
 use lib.Seq.{sets}
+use mir.Syntax.{w32}
+use mir.Val.{Fits}
 use Rattle.pitch_text.specs.Decimal.{digits-to, digits}
 
 -- more room changes nothing
@@ -56,7 +57,11 @@ digits-few (suc k) n h = by (digits-few k (n / 10) (omega arith)) (decLt n 10)
     by l (yes p) = rw (digits-one n p) (omega arith)
     by l (no p) = rw (digits-more n (omega arith), length-append (digits (n / 10)) ((48 + n % 10) ∷ [])) (omega arith)
 
--- the digits of such a number, counted from k: a number's digits by computation
+-- a number of 32 bits has at most 10
+pub digits-word : (n : ℕ) → Fits w32 n → length (digits n) ≤ 10
+digits-word n f = digits-few 9 n (omega (arith, f .fits))
+
+-- a number below ten to the k has the digits that k steps give: its digits by computation
 pub digits-short : (k n : ℕ) → n < 10 ^ suc k → digits n ≡ digits-to (suc k) n
 unfolding digits-to
 digits-short zero n h = rw (digits-one n (omega arith), lt-ltb)

@@ -1,9 +1,9 @@
 -- Cases of the definitions, by computation: numbers in decimal, and the row's line of document 01's example.
 -- Assumes nothing.
 use mathlib.Core.Path.{_≡_, refl}
-use mathlib.Core.List.{List, [], _∷_, map}
+use mathlib.Core.List.{[], _∷_, map}
 use lib.Dec.{lit<}
-use lib.IntN.{ℤ, pos, negsuc}
+use lib.IntN.{pos, negsuc}
 use Rattle.zint.specs.Equal.{eqZ}
 use Rattle.pitch_table.specs.declared.Row.{Row}
 use Rattle.pitch_text.specs.Decimal.{digits-to, digits, decimal}

@@ -1,9 +1,7 @@
 // Text: decimal numbers and lines as bytes, written at a place of a buffer.
 ghost use mathlib.Core.Path.{_≡_};
-ghost use mathlib.Core.List.{List};
-ghost use Prim.Native.Nat.{ℕ, _+_, _*_, _≤_};
+ghost use Prim.Native.Nat.{_+_, _*_, _≤_};
 ghost use lib.ListN.{length, take};
-ghost use lib.Seq.{sets};
 ghost use Rattle.pitch_table.specs.Row.{row-at};
 ghost use Rattle.pitch_text.specs.Decimal.{digits, decimal};
 ghost use Rattle.pitch_text.specs.Text.{fields, letter-of, values-of, row-text, line-text, lines-text, refused-text, Put};

@@ -1,6 +1,6 @@
 -- `pitch_text::letter` meets its contract. Assumes nothing.
 use mathlib.Core.Path.{_≡_, sym, ap, _∙_}
-use lib.IntN.{ℤ, pos}
+use lib.IntN.{pos}
 use mir.Syntax.{w32}
 use mir.Val.{toZ, ofZ}
 use Rattle.zint.specs.EqualLaws.{eqZ-yes, eqZ-no}

@@ -2,17 +2,16 @@
 use mathlib.Core.Path.{_≡_, _∙_}
 use Prim.Native.Nat.{_+_, _≤_}
 use native.Mathlib.Omega.{arith}
-use borrow.Author.Needs.{needs}
 use lib.ListN.{length, length-set}
 use Rattle.pitch_text.specs.Text.{line-text}
 use Rattle.pitch_text.specs.Decimal.{digits}
-use Rattle.pitch_text.specs.DecimalLaws.{digits-few}
+use Rattle.pitch_text.specs.DecimalLaws.{digits-word}
 use Rattle.pitch_text.specs.TextLaws.{put-then, put-byte}
 use Rattle.pitch_text.proofs.put_line.Statement.{statement}
 use Rattle.pitch_text.proofs.put_line.Tie as tie
 
 few : (c : tie.Start) → length (digits (c .args .i)) ≤ 10
-few c = digits-few 9 (c .args .i) (omega (arith, c .fits .i))
+few c = digits-word (c .args .i) (c .fits .i)
 
 -- the place after the number, and the length that is kept
 module _ (c : tie.After-put-digits) where

@@ -1,6 +1,5 @@
 -- `pitch_text::put_number` meets its contract: the sign, then the digits of the size. Assumes nothing.
 use mathlib.Core.Path.{_≡_, sym, ap, _∙_}
-use mathlib.Core.Bool.{true, false}
 use mathlib.Core.List.{_∷_}
 use Prim.Native.Nat.{ℕ}
 use native.Mathlib.Omega.{arith}

@@ -6,14 +6,14 @@ use native.Mathlib.Omega.{arith}
 use borrow.Author.Needs.{needs}
 use lib.ListN.{length, set, length-set}
 use Rattle.pitch_text.specs.Decimal.{digits}
-use Rattle.pitch_text.specs.DecimalLaws.{digits-few}
+use Rattle.pitch_text.specs.DecimalLaws.{digits-word}
 use Rattle.pitch_text.specs.Text.{refused-text, Put}
 use Rattle.pitch_text.specs.TextLaws.{put-then, put-byte, put-next, put-end}
 use Rattle.pitch_text.proofs.put_refused.Statement.{statement}
 use Rattle.pitch_text.proofs.put_refused.Tie as tie
 
 few : (c : tie.Start) → length (digits (c .args .n)) ≤ 10
-few c = digits-few 9 (c .args .n) (omega (arith, c .fits .n))
+few c = digits-word (c .args .n) (c .fits .n)
 
 -- the place after the number, and the length that is kept
 module _ (c : tie.After-put-digits) where

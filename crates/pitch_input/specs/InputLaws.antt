@@ -1,0 +1,35 @@
+-- Laws of an input's bytes: what follows the bytes of a number or of the settings does not change them, and how many samples there are.
+-- Assumes nothing.
+use mathlib.Core.Path.{_≡_, sym, ap, _∙_}
+use mathlib.Core.List.{List, _++_, append-nil}
+use Prim.Native.Nat.{ℕ, _+_, _*_, _≤_}
+use native.Mathlib.Omega.{arith}
+use lib.IntN.{ℤ}
+use lib.ListN.{length, drop, length-drop, List·getD-append}
+use lib.Seq.{drop-append-le, take-append-le, drop-length}
+use Rattle.lists.specs.Fill.{table, filled, length-table}
+use Rattle.sheet_bytes.specs.Bytes.{number-at, signed-at}
+use Rattle.pitch_input.specs.Input.{settings-in, sample-at, samples-from}
+
+number-front : (k : ℕ) (b r : List ℕ) (at : ℕ) → at + k ≤ length b → number-at k (b ++ r) at ≡ number-at k b at
+unfolding number-at
+number-front k b r at h = rw (drop-append-le at b r (omega arith), take-append-le k (drop at b) r (rw length-drop (omega arith)))
+
+signed-front : (b r : List ℕ) (at : ℕ) → at + 4 ≤ length b → signed-at (b ++ r) at ≡ signed-at b at
+unfolding signed-at
+signed-front b r at h = rw (number-front 4 b r at h)
+
+pub settings-front : (b r : List ℕ) → 11 ≤ length b → settings-in (b ++ r) ≡ settings-in b
+unfolding settings-in
+settings-front b r h =
+    rw (List·getD-append b r 0 0 (omega arith), List·getD-append b r 0 1 (omega arith), List·getD-append b r 0 2 (omega arith), signed-front b r 3 (omega arith), signed-front b r 7 (omega arith))
+
+pub length-samples : (b : List ℕ) (at n : ℕ) → length (samples-from b at n) ≡ n
+unfolding samples-from
+length-samples b at n = length-table _ n
+
+-- a list that is filled to its end with samples
+pub samples-filled : (b : List ℕ) (at n : ℕ) (out : List ℤ) → length out ≡ n → filled (λ (k : ℕ). sample-at b (at + 2 * k)) n out ≡ samples-from b at n
+unfolding samples-from filled
+samples-filled b at n out e =
+    ap (λ (l : List ℤ). table (λ (k : ℕ). sample-at b (at + 2 * k)) n ++ l) (ap (λ (m : ℕ). drop m out) (sym e) ∙ drop-length out) ∙ append-nil (table (λ (k : ℕ). sample-at b (at + 2 * k)) n)
