@@ -24,7 +24,7 @@ use Rattle.sheet_sections.specs.Sheet.{listed, entry, entries, setting-e
 -- ---- one run of stores after another
 
 module _ {A : Type 0} where
-  sets-append : (l xs ys : List A) (at end : ℕ) → end ≡ at + length xs → sets (sets l at xs) end ys ≡ sets l at (xs ++ ys)
+  pub sets-append : (l xs ys : List A) (at end : ℕ) → end ≡ at + length xs → sets (sets l at xs) end ys ≡ sets l at (xs ++ ys)
   sets-append l [] ys at end e = ap (λ (n : ℕ). sets l n ys) (e ∙ add-zero at)
   sets-append l (x ∷ xs) ys at end e = sets-append (set l at x) xs ys (suc at) end (omega arith)
 

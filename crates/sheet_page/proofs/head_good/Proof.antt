@@ -1,0 +1,64 @@
+-- `sheet_page::head_good` meets its contract. Assumes nothing.
+use mathlib.Core.Path.{_≡_, sym, ap, _∙_}
+use Prim.Native.Nat.{ℕ}
+use borrow.Author.Tests.{le-leb, lt-leb, eq-eqb, ne-eqb}
+use lib.Dec.{leb}
+use lib.ListN.{length}
+use Rattle.pitch_settings.specs.Settings.{settings-no}
+use Rattle.sheet_bytes.specs.Bytes.{number-at}
+use Rattle.sheet_page.specs.Page.{settings-in, frames-in, head-good}
+use borrow.Author.Needs.{needs}
+use Rattle.sheet_page.proofs.head_good.Statement.{statement}
+use Rattle.sheet_page.proofs.head_good.Tie as tie
+
+settled : (c : tie.After-settings-no) → c .settings-no .result ≡ settings-no (settings-in (c .before .before .before .before .before .before .args .page .now))
+settled c = c .settings-no .ensures ∙ ap settings-no (c .before .settings-at .ensures)
+
+returns : tie.Need-returns
+unfolding head-good
+returns c = rw (lt-leb 28 (length (c .before .before .args .page .now)) (c .if1 .taken))
+
+u32-at-requires : tie.Need-u32-at-requires
+u32-at-requires c κs = search needs
+
+returns-2 : tie.Need-returns-2
+unfolding head-good
+returns-2 c =
+    let p = c .before .before .before .before .args .page .now in
+    rw (le-leb 28 (length p) (c .before .before .if1 .left), ne-eqb (number-at 4 p 0) 5 (λ e. c .if2 .taken (c .before .u32-at .ensures ∙ e)))
+
+settings-at-requires : tie.Need-settings-at-requires
+settings-at-requires c κs = search needs
+
+settings-no-requires : tie.Need-settings-no-requires
+settings-no-requires c κs = tt
+
+returns-3 : tie.Need-returns-3
+unfolding head-good
+returns-3 c =
+    let p = c .before .before .before .before .before .before .before .args .page .now in
+    rw (le-leb 28 (length p) (c .before .before .before .before .before .if1 .left), eq-eqb (number-at 4 p 0) 5 (sym (c .before .before .before .before .u32-at .ensures) ∙ c .before .before .before .if2 .left), ne-eqb (settings-no (settings-in p)) 0 (λ e. c .if3 .taken (settled (c .before) ∙ e)))
+
+u32-at-requires-2 : tie.Need-u32-at-requires-2
+u32-at-requires-2 c κs = search needs
+
+returns-4 : tie.Need-returns-4
+unfolding head-good frames-in
+returns-4 c =
+    let q = c .before in
+    let p = q .before .before .before .before .before .before .before .args .page .now in
+    rw (le-leb 28 (length p) (q .before .before .before .before .before .if1 .left), eq-eqb (number-at 4 p 0) 5 (sym (q .before .before .before .before .u32-at .ensures) ∙ q .before .before .before .if2 .left), eq-eqb (settings-no (settings-in p)) 0 (sym (settled (q .before)) ∙ q .if3 .left))
+    (ap (λ (n : ℕ). leb n 4096) (c .u32-at2 .ensures))
+
+pub head-good-spec : {M : Type 1} → statement M
+head-good-spec =
+    tie.close
+    (tie.spec
+    returns
+    u32-at-requires
+    returns-2
+    settings-at-requires
+    settings-no-requires
+    returns-3
+    u32-at-requires-2
+    returns-4)

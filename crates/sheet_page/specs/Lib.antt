@@ -1,0 +1,3 @@
+-- What a page holds. Definitions: `Page`; laws: `PageLaws`.
+pub mod Page
+pub mod PageLaws

@@ -1,0 +1,110 @@
+-- What a page holds, by place (document 01, "Sheet"), and when it is a sheet: read it beside the bytes of a sheet, `Sheet` of sheet_sections. Definitions only; the laws are in
+-- `PageLaws`.
+use mathlib.Core.Bool.{Bool, true, false, _&&_, cond}
+use mathlib.Core.List.{List, [], _∷_, _++_}
+use Prim.Native.Nat.{ℕ, zero, suc, _+_, _*_}
+use lib.Dec.{eqb, leb}
+use lib.IntN.{ℤ, pos}
+use lib.ListN.{length, getD}
+use Rattle.best.specs.Best.{every}
+use Rattle.lists.specs.Fill.{table}
+use Rattle.pitch_settings.specs.declared.Settings.{Settings}
+use Rattle.pitch_settings.specs.Settings.{settings-no}
+use Rattle.pitch_table.specs.declared.Row.{Row}
+use Rattle.pitch_table.specs.Row.{numbers}
+use Rattle.sheet_bytes.specs.Bytes.{number-at, signed-at}
+use Rattle.sheet_rows.specs.declared.RowRead.{RowRead}
+use Rattle.sheet_rows.specs.declared.RowRead.the-variants.{Held, Bad}
+use Rattle.sheet_rows.specs.Rows.{quiet-row, row-of}
+use Rattle.sheet_sections.specs.Sheet.{sheet-length}
+use Rattle.sheet_page.specs.declared.Head.{Head}
+
+-- the settings after their count, then the frames' count, then a byte a frame, its verdict
+unfoldable pub settings-in : List ℕ → Settings
+settings-in p =
+    record {
+      rate = number-at 4 p 4;
+      nb = number-at 4 p 8;
+      complexity = number-at 4 p 12;
+      thres1 = signed-at p 16;
+      thres2 = signed-at p 20;
+    }
+
+unfoldable pub frames-in : List ℕ → ℕ
+frames-in p = number-at 4 p 24
+
+unfoldable pub verdict-in : List ℕ → ℕ → ℕ
+verdict-in p i = getD p (28 + i) 0
+
+-- how many of the first i verdicts are voiced, and of all
+unfoldable pub voiced-before : List ℕ → ℕ → ℕ
+voiced-before p zero = 0
+voiced-before p (suc i) = voiced-before p i + cond (eqb (verdict-in p i) 0) 1 0
+
+unfoldable pub voiced-in : List ℕ → ℕ
+voiced-in p = voiced-before p (frames-in p)
+
+abbrev pub head-in : List ℕ → Head
+head-in p = record { settings = settings-in p; frames = frames-in p; voiced = voiced-in p }
+
+-- where the pairs' count stands, and after it the pair of frame i where it is voiced; where the correlations' count stands, and after it the correlation of frame i
+unfoldable pub pairs-from : List ℕ → ℕ
+pairs-from p = 28 + frames-in p
+
+unfoldable pub pair-place : List ℕ → ℕ → ℕ
+pair-place p i = pairs-from p + 4 + 3 * voiced-before p i
+
+unfoldable pub correlations-from : List ℕ → ℕ
+correlations-from p = pairs-from p + 4 + 3 * voiced-in p
+
+unfoldable pub correlation-place : List ℕ → ℕ → ℕ
+correlation-place p i = correlations-from p + 4 + 4 * voiced-before p i
+
+-- frame i's row: what its verdict, and where it is voiced its pair and its correlation, stand for
+unfoldable pub row-in : List ℕ → ℕ → RowRead
+row-in p i =
+    cond (eqb (verdict-in p i) 0)
+    (row-of (settings-in p) (pos 0) (pos (number-at 2 p (pair-place p i))) (pos (getD p (pair-place p i + 2) 0)) (signed-at p (correlation-place p i)))
+    (row-of (settings-in p) (pos (verdict-in p i)) (pos 0) (pos 0) (pos 0))
+
+unfoldable pub readable : RowRead → Bool
+readable (Held r) = true
+readable Bad = false
+
+-- ---- when it is a sheet
+
+-- five settings that are accepted, and at most 4,096 frames
+unfoldable pub head-good : List ℕ → Bool
+head-good p = leb 28 (length p) && (eqb (number-at 4 p 0) 5 && (eqb (settings-no (settings-in p)) 0 && leb (frames-in p) 4096))
+
+-- no byte is missing and none follows; the pairs and the correlations number the voiced verdicts
+unfoldable pub sizes-good : List ℕ → Bool
+sizes-good p =
+    eqb (length p) (sheet-length (frames-in p) (voiced-in p))
+    && (eqb (number-at 4 p (pairs-from p)) (voiced-in p) && eqb (number-at 4 p (correlations-from p)) (voiced-in p))
+
+-- every row can be read
+unfoldable pub rows-good : List ℕ → Bool
+rows-good p = every (frames-in p) (λ i. readable (row-in p i))
+
+unfoldable pub well-formed : List ℕ → Bool
+well-formed p = head-good p && (sizes-good p && rows-good p)
+
+-- the refusal of a page that is no sheet, or 0
+unfoldable pub page-no : List ℕ → ℕ
+page-no p = cond (well-formed p) 0 9
+
+-- ---- its rows
+
+-- the row that was read (the second clause is for totality: no sheet has such a row)
+unfoldable pub held : RowRead → Row
+held (Held r) = r
+held Bad = quiet-row (pos 1)
+
+unfoldable pub rows-in : List ℕ → List Row
+rows-in p = table (λ i. held (row-in p i)) (frames-in p)
+
+-- the numbers of rows, row after row, as a table has them
+unfoldable pub numbers-of : List Row → List ℤ
+numbers-of [] = []
+numbers-of (r ∷ rs) = numbers r ++ numbers-of rs
