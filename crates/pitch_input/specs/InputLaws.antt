@@ -1,14 +1,18 @@
--- Laws of an input's bytes: what follows the bytes of a number or of the settings does not change them, and how many samples there are.
+-- Laws of an input's bytes: what follows the bytes of a number or of the settings does not change them, how many samples there are, and where they are loaded; and how large the settings' number is.
 -- Assumes nothing.
 use mathlib.Core.Path.{_≡_, sym, ap, _∙_}
+use mathlib.Core.Bool.{Bool, true, false, cond}
 use mathlib.Core.List.{List, _++_, append-nil}
 use Prim.Native.Nat.{ℕ, _+_, _*_, _≤_}
 use native.Mathlib.Omega.{arith}
+use lib.Dec.{leb}
 use lib.IntN.{ℤ}
-use lib.ListN.{length, drop, length-drop, List·getD-append}
-use lib.Seq.{drop-append-le, take-append-le, drop-length}
+use lib.ListN.{length, take, drop, length-drop, List·getD-append}
+use lib.Seq.{drop-append-le, take-append-le, drop-length, take-at, length-take-le}
 use Rattle.lists.specs.Fill.{table, filled, length-table}
 use Rattle.sheet_bytes.specs.Bytes.{number-at, signed-at}
+use Rattle.pitch_settings.specs.declared.Settings.{Settings}
+use Rattle.pitch_settings.specs.Settings.{rate-known, subframes-known, settings-no}
 use Rattle.pitch_input.specs.Input.{settings-in, sample-at, samples-from}
 
 number-front : (k : ℕ) (b r : List ℕ) (at : ℕ) → at + k ≤ length b → number-at k (b ++ r) at ≡ number-at k b at
@@ -33,3 +37,20 @@ pub samples-filled : (b : List ℕ) (at n : ℕ) (out : List ℤ) → length out
 unfolding samples-from filled
 samples-filled b at n out e =
     ap (λ (l : List ℤ). table (λ (k : ℕ). sample-at b (at + 2 * k)) n ++ l) (ap (λ (m : ℕ). drop m out) (sym e) ∙ drop-length out) ∙ append-nil (table (λ (k : ℕ). sample-at b (at + 2 * k)) n)
+
+-- samples that are loaded into the front of x
+pub loaded : (b : List ℕ) (at n : ℕ) (x out : List ℤ) → n ≤ length x → out ≡ samples-from b at (length (take n x)) → take n (out ++ drop n x) ≡ samples-from b at n
+loaded b at n x out h e =
+    ap (λ (o : List ℤ). take n (o ++ drop n x)) (e ∙ ap (samples-from b at) (length-take-le n x h))
+    ∙ take-at (samples-from b at n) (drop n x) n (length-samples b at n)
+
+-- a refusal of settings is 1, 2 or 3
+pub settings-small : (s : Settings) → settings-no s ≤ 3
+unfolding settings-no
+settings-small s = by (rate-known (s .rate)) (subframes-known (s .nb)) (leb (s .complexity) 2)
+  where
+    by : (p q r : Bool) → cond p (cond q (cond r 0 3) 2) 1 ≤ 3
+    by true true true = omega arith
+    by true true false = omega arith
+    by true false r = omega arith
+    by false q r = omega arith

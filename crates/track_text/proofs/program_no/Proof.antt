@@ -1,0 +1,80 @@
+-- `track_text::program_no` meets its contract. Assumes nothing.
+use mathlib.Core.Path.{_≡_, sym, ap, _∙_}
+use Prim.Native.Nat.{_+_, _-_, _/_, _%_}
+use borrow.Author.Needs.{needs}
+use lib.Dec.{ltb, eqb}
+use lib.ListN.{length}
+use Rattle.pitch_settings.specs.declared.Settings.{Settings}
+use Rattle.pitch_settings.specs.Settings.{settings-no}
+use Rattle.pitch_track.specs.Paper.{F}
+use Rattle.track_text.specs.Program.{first-no}
+use Rattle.pitch_input.specs.Input.{settings-in}
+use Rattle.track_text.specs.ProgramLaws.{no-short, no-wrong, no-more, no-all}
+use Rattle.track_text.proofs.program_no.Statement.{statement}
+use Rattle.track_text.proofs.program_no.Tie as tie
+
+-- the settings' number
+number : (c : tie.After-settings-no) → c .settings-no .result ≡ settings-no (settings-in (c .before .before .before .before .args .input .now))
+number c = c .settings-no .ensures ∙ ap settings-no (c .before .settings-in .ensures)
+
+returns : tie.Need-returns
+returns c rest e =
+    let s = c .before .before in
+    no-short (s .args .input .now) rest (s .args .more) e (s .pre) (c .if1 .taken)
+
+add-half : tie.Need-add-half
+add-half c = search needs
+
+settings-in-requires : tie.Need-settings-in-requires
+settings-in-requires c κs = search needs
+
+settings-no-requires : tie.Need-settings-no-requires
+settings-no-requires c κs = search needs
+
+first-no-requires : tie.Need-first-no-requires
+first-no-requires c κs = search needs
+
+returns-2 : tie.Need-returns-2
+returns-2 c rest e =
+    let s = c .before .before .before .before .before .before in
+    c .first-no .ensures
+    ∙ no-wrong (s .args .input .now) rest (s .args .more) e (s .pre) (c .before .before .before .before .if1 .left) (c .before .before .settings-no .result) (number (c .before .before)) (c .before .if2 .taken)
+
+first-no-requires-2 : tie.Need-first-no-requires-2
+first-no-requires-2 c κs = search needs
+
+returns-3 : tie.Need-returns-3
+returns-3 c rest e =
+    let s = c .before .before .before .before .before .before .before in
+    c .first-no2 .ensures
+    ∙ no-more (s .args .input .now) rest (s .args .more) e (s .pre) (c .before .before .before .before .before .if1 .left) (sym (number (c .before .before .before)) ∙ c .before .before .if2 .left) (c .before .if3 .taken)
+
+is-long-requires : tie.Need-is-long-requires
+is-long-requires c κs = search needs
+
+first-no-requires-3 : tie.Need-first-no-requires-3
+first-no-requires-3 c κs = search needs
+
+returns-4 : tie.Need-returns-4
+returns-4 c rest e =
+    let s = c .before .before .before .before .before .before .before .before in
+    let d = c .before .before .before .before in
+    c .first-no3 .ensures
+    ∙ ap (first-no (eqb ((length (s .args .input .now) - 11 + s .args .more % 2) % 2) 1) 0) (c .before .is-long .ensures ∙ ap (λ (t : Settings). ltb 1024 (F t ((length (s .args .input .now) - 11) / 2))) (d .before .settings-in .ensures))
+    ∙ no-all (s .args .input .now) rest (s .args .more) e (s .pre) (d .before .before .if1 .left) (sym (number d) ∙ c .before .before .before .if2 .left) (c .before .before .if3 .left)
+
+pub program-no-spec : {M : Type 1} → statement M
+program-no-spec =
+    tie.close
+    (tie.spec
+    returns
+    add-half
+    settings-in-requires
+    settings-no-requires
+    first-no-requires
+    returns-2
+    first-no-requires-2
+    returns-3
+    is-long-requires
+    first-no-requires-3
+    returns-4)
