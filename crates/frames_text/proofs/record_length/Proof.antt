@@ -1,0 +1,59 @@
+-- `frames_text::record_length` meets its contract. Assumes nothing.
+use mathlib.Core.Path.{_≡_, sym, ap, _∙_}
+use native.Mathlib.Omega.{arith}
+use Rattle.pitch_settings.specs.Settings.{settings-no}
+use Rattle.pitch_input.specs.Input.{settings-in}
+use Rattle.frames_text.specs.Frames.{record-size}
+use Rattle.frames_text.specs.FramesLaws.{length-head, length-wrong, length-whole}
+use borrow.Author.Needs.{needs}
+use Rattle.frames_text.proofs.record_length.Statement.{statement}
+use Rattle.frames_text.proofs.record_length.Tie as tie
+
+-- the settings' number, and that it is 0
+number : (c : tie.After-settings-no) → c .settings-no .result ≡ settings-no (settings-in (c .before .before .before .before .args .head .now))
+number c = c .settings-no .ensures ∙ ap settings-no (c .before .settings-in .ensures)
+
+known : (c : tie.Else2) → settings-no (settings-in (c .before .before .before .before .before .args .head .now)) ≡ 0
+known c = sym (number (c .before)) ∙ c .if2 .left
+
+-- the record's size
+size : (c : tie.After-record-size) → c .record-size .result ≡ record-size (settings-in (c .before .before .before .before .before .before .args .head .now))
+size c = c .record-size .ensures .0 ∙ ap record-size (c .before .before .before .settings-in .ensures)
+
+returns : tie.Need-returns
+returns c = (length-head (c .before .before .args .head .now) (c .if1 .taken), omega arith, omega (arith, c .before .before .pre))
+
+settings-in-requires : tie.Need-settings-in-requires
+settings-in-requires c κs = search needs
+
+settings-no-requires : tie.Need-settings-no-requires
+settings-no-requires c κs = search needs
+
+returns-2 : tie.Need-returns-2
+returns-2 c = (
+  length-wrong (c .before .before .before .before .before .args .head .now) (c .before .before .before .if1 .left) (c .before .settings-no .result) (number (c .before)) (c .if2 .taken),
+  omega arith,
+  omega (arith, c .before .before .before .before .before .pre),
+)
+
+record-size-requires : tie.Need-record-size-requires
+record-size-requires c κs = sym (c .before .settings-no .ensures) ∙ c .if2 .left
+
+returns-3 : tie.Need-returns-3
+returns-3 c =
+    let s = c .before .before .before .before .before .before in (
+      size c ∙ length-whole (s .args .head .now) (c .before .before .before .before .if1 .left) (known (c .before)),
+      omega (arith, c .record-size .ensures .1, s .pre),
+      c .record-size .ensures .2,
+    )
+
+pub record-length-spec : {M : Type 1} → statement M
+record-length-spec =
+    tie.close
+    (tie.spec
+    returns
+    settings-in-requires
+    settings-no-requires
+    returns-2
+    record-size-requires
+    returns-3)

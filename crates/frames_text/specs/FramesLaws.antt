@@ -1,0 +1,93 @@
+-- Laws of a record's text: the refusal's number by cases, what a record that is not refused has, and its text.
+-- Assumes nothing.
+use mathlib.Core.Path.{_≡_, refl, sym}
+use mathlib.Core.Bool.{Bool, true, false, cond}
+use mathlib.Core.List.{List}
+use Prim.Native.Nat.{ℕ, _+_, _*_, _≤_, _<_}
+use native.Mathlib.Omega.{arith}
+use borrow.Author.Tests.{lt-ltb, le-ltb, ne-eqb, ltb-false, eqb-true, eqb-false}
+use lib.Dec.{ltb, eqb}
+use lib.ListN.{length}
+use Rattle.pitch_settings.specs.declared.Settings.{Settings}
+use Rattle.pitch_settings.specs.Settings.{settings-no, frame-length}
+use Rattle.pitch_settings.specs.SettingsLaws.{accepted}
+use Rattle.pitch_input.specs.Input.{settings-in}
+use Rattle.pitch_input.specs.InputLaws.{settings-small}
+use Rattle.pitch_text.specs.Text.{row-text, refused-text}
+use Rattle.frames_text.specs.Frames.{record-size, record-length, record-no, record-row, record-text}
+
+-- a record has at most 1,299 bytes
+pub sized : (s : Settings) (n : ℕ) → settings-no s ≡ 0 → n ≡ frame-length s → (19 + 2 * n ≡ record-size s) × (19 ≤ 19 + 2 * n) × (19 + 2 * n ≤ 1299)
+unfolding record-size
+sized s n e h = (omega arith, omega arith, omega (arith, accepted s e .small))
+
+module _ (b : List ℕ) where
+  -- ---- a head that is cut
+  pub no-head : length b < 19 → 10 ≡ record-no b
+  unfolding record-no
+  no-head h = rw lt-ltb
+
+  pub length-head : length b < 19 → length b ≡ record-length b
+  unfolding record-length
+  length-head h = rw lt-ltb
+
+  module _ (enough : 19 ≤ length b) where
+    -- ---- refused settings
+    module _ (w : ℕ) (e : w ≡ settings-no (settings-in b)) (wrong : w ≡ 0 → ⊥) where
+      pub no-wrong : w ≡ record-no b
+      unfolding record-no
+      no-wrong = rw (le-ltb (length b) 19 enough, ← e, ne-eqb w 0 wrong)
+
+      pub length-wrong : length b ≡ record-length b
+      unfolding record-length
+      length-wrong = rw (le-ltb (length b) 19 enough, ← e, ne-eqb w 0 wrong)
+
+    -- ---- accepted ones
+    module _ (known : settings-no (settings-in b) ≡ 0) where
+      pub no-cut : length b < record-size (settings-in b) → 10 ≡ record-no b
+      unfolding record-no
+      no-cut h = rw (le-ltb (length b) 19 enough, known, lt-ltb (length b) (record-size (settings-in b)) h)
+
+      pub no-none : record-size (settings-in b) ≤ length b → 0 ≡ record-no b
+      unfolding record-no
+      no-none h = rw (le-ltb (length b) 19 enough, known, le-ltb (length b) (record-size (settings-in b)) h)
+
+      pub length-whole : record-size (settings-in b) ≡ record-length b
+      unfolding record-length
+      length-whole = rw (le-ltb (length b) 19 enough, known)
+
+-- the number is small
+pub no-small : (b : List ℕ) → record-no b ≤ 10
+unfolding record-no
+no-small b = by (ltb (length b) 19) (eqb (settings-no (settings-in b)) 0) (ltb (length b) (record-size (settings-in b))) (settings-small (settings-in b))
+  where
+    by : (x y z : Bool) → settings-no (settings-in b) ≤ 3 → cond x 10 (cond y (cond z 10 0) (settings-no (settings-in b))) ≤ 10
+    by true y z h = omega arith
+    by false true true h = omega arith
+    by false true false h = omega arith
+    by false false z h = omega arith
+
+-- a record that is not refused
+pub record Whole (b : List ℕ) : Type 0 where
+  pub enough : 19 ≤ length b
+  pub known : settings-no (settings-in b) ≡ 0
+  pub full : record-size (settings-in b) ≤ length b
+
+pub whole : (b : List ℕ) → 0 ≡ record-no b → Whole b
+unfolding record-no
+whole b e = by (ltb (length b) 19) (eqb (settings-no (settings-in b)) 0) (ltb (length b) (record-size (settings-in b))) refl refl refl e
+  where
+    by : (x y z : Bool) → ltb (length b) 19 ≡ x → eqb (settings-no (settings-in b)) 0 ≡ y → ltb (length b) (record-size (settings-in b)) ≡ z → 0 ≡ cond x 10 (cond y (cond z 10 0) (settings-no (settings-in b))) → Whole b
+    by true y z p q r h = absurd (omega arith)
+    by false true true p q r h = absurd (omega arith)
+    by false true false p q r h = record { enough = ltb-false _ _ p; known = eqb-true _ _ q; full = ltb-false _ _ r }
+    by false false z p q r h = absurd (eqb-false _ _ q (sym h))
+
+-- ---- the text
+pub text-refused : (b : List ℕ) (n : ℕ) → n ≡ record-no b → (n ≡ 0 → ⊥) → refused-text n ≡ record-text b
+unfolding record-text
+text-refused b n e h = rw (← e, ne-eqb n 0 h)
+
+pub text-row : (b : List ℕ) → 0 ≡ record-no b → row-text (settings-in b .nb) (record-row b) ≡ record-text b
+unfolding record-text
+text-row b e = rw (← e)

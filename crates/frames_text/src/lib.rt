@@ -1,0 +1,85 @@
+// What the program `frames` prints for a record: its bytes are taken apart, its frame is analysed, and its row is written as a line.
+ghost use mathlib.Core.Path.{_≡_};
+ghost use Prim.Native.Nat.{_≤_};
+ghost use lib.ListN.{length};
+ghost use Rattle.pitch_settings.specs.Settings.{settings-no};
+ghost use Rattle.frames_text.specs.Frames.{record-size, record-length, record-no, Said};
+use pitch_input::load_samples;
+use pitch_input::settings_in;
+use pitch_settings::Settings;
+use pitch_settings::frame_length;
+use pitch_settings::settings_no;
+use pitch_text::put_refused;
+use pitch_text::put_row_text;
+use sheet_bytes::i32_at;
+use silk_pitch_analysis::frame_row;
+
+// How long a text is, and the number of the refusal that it tells, or 0.
+pub struct Line {
+    pub len: usize,
+    pub number: usize,
+}
+
+// The bytes of a record with these settings.
+fn record_size(s: Settings) -> usize
+    requires { ⌜ settings-no s ≡ 0 ⌝ }
+    ensures { λ r. ⌜ (r ≡ record-size s) × (19 ≤ r) × (r ≤ 1299) ⌝ }
+{
+    19 + 2 * frame_length(s)
+}
+
+// How many bytes the record has that begins with `head`, the first 19 bytes of it or what there is of them.
+pub fn record_length(head: &[u8]) -> usize
+    requires { ⌜ length (now head) ≤ 19 ⌝ }
+    ensures { λ r. ⌜ (r ≡ record-length (now (head .entry))) × (length (now (head .entry)) ≤ r) × (r ≤ 1299) ⌝ }
+{
+    let len = head.len();
+    if len < 19 {
+        return len;
+    }
+    let s = settings_in(head);
+    let wrong = settings_no(s);
+    if wrong != 0 {
+        return len;
+    }
+    record_size(s)
+}
+
+// The number of a record's refusal, or 0.
+fn record_no(bytes: &[u8]) -> usize
+    ensures { λ r. ⌜ r ≡ record-no (now (bytes .entry)) ⌝ }
+{
+    let len = bytes.len();
+    if len < 19 {
+        return 10;
+    }
+    let s = settings_in(bytes);
+    let wrong = settings_no(s);
+    if wrong != 0 {
+        return wrong;
+    }
+    if len < record_size(s) {
+        return 10;
+    }
+    0
+}
+
+// The record's line or its refusal, in the first bytes of `out`. What the call leaves in the other bytes of `out` and in `samples` is free.
+pub fn frame_text(bytes: &[u8], samples: &mut [i16], out: &mut [u8]) -> Line
+    requires { ⌜ (640 ≤ length (now samples)) × (86 ≤ length (now out)) ⌝ }
+    ensures { λ r. ⌜ Said (now (bytes .entry)) (r .number) (r .len) (now (out .exit)) ⌝ }
+{
+    let number = record_no(bytes);
+    if number != 0 {
+        let len = put_refused(out, 0, number as u32);
+        return Line { len, number };
+    }
+    let s = settings_in(bytes);
+    let n = frame_length(s);
+    load_samples(bytes, 19, &mut samples[..n]);
+    let lag = i32_at(bytes, 11);
+    let correlation = i32_at(bytes, 15);
+    let row = frame_row(s, &samples[..n], lag, correlation);
+    let len = put_row_text(out, 0, s.nb, row);
+    Line { len, number }
+}
