@@ -1,0 +1,54 @@
+-- `pitch_sheet::write_sheet` meets its contract. Assumes nothing.
+use native.Mathlib.Omega.{arith}
+use Rattle.sheet_sections.specs.Sheet.{sheet, rows-of}
+use mathlib.Core.Path.{_≡_, sym, ap, _∙_}
+use Prim.Native.Nat.{ℕ}
+use lib.ListN.{length}
+use Rattle.pitch_sheet.specs.declared.Wrote.the-variants.{Written, Refused as NotWritten}
+use Rattle.pitch_sheet.specs.Calls.{wrote}
+use Rattle.pitch_sheet.specs.CallsLaws.{Accepted, accepted, write-refused, write-done, front}
+use borrow.Author.Needs.{needs}
+use Rattle.pitch_sheet.proofs.write_sheet.Statement.{statement}
+use Rattle.pitch_sheet.proofs.write_sheet.Tie as tie
+
+told : (c : tie.Else1) → Accepted (c .before .before .before .args .s) (c .before .before .before .args .frames) (c .before .before .before .args .table .now) (length (c .before .before .before .args .page .now))
+told c = let a = c .before .before .before .args in accepted (a .s) (a .frames) (a .table .now) (length (a .page .now)) (sym (c .before .write-no .ensures) ∙ c .if1 .left)
+
+write-no-requires : tie.Need-write-no-requires
+write-no-requires c κs = tt
+
+returns : tie.Need-returns
+returns c =
+    let a = c .before .before .before .args in
+    let e = c .before .write-no .ensures in
+    ap (λ (n : ℕ). wrote (NotWritten n) (a .page .now)) e ∙ sym (write-refused (a .s) (a .frames) (a .table .now) (a .page .now) (λ z. c .if1 .taken (e ∙ z)))
+
+voiced-rows-requires : tie.Need-voiced-rows-requires
+voiced-rows-requires c κs = told c .whole
+
+put-sheet-requires : tie.Need-put-sheet-requires
+put-sheet-requires c κs = let k = told (c .before .before) in (k .settings, k .whole, k .few, k .rows, c .before .voiced-rows .ensures, k .fits)
+
+same-length : tie.Need-same-length
+same-length c = search needs
+
+returns-2 : tie.Need-returns-2
+returns-2 c =
+    let a = c .before .before .before .before .before .before .before .before .args in
+    let q = c .before .before .before .before .before in
+    let bytes = sheet (a .s) (rows-of (a .table .now) (a .frames)) in
+    let put = c .before .before .put-sheet .ensures in
+    let n : c .before .before .put-sheet .result ≡ length bytes = omega (arith, put .end-is) in
+    let p = put .page-is ∙ front (a .page .now) bytes (told q .fits) in
+    (λ i. wrote (Written (n i)) (p i)) ∙ sym (write-done (a .s) (a .frames) (a .table .now) (a .page .now) (sym (q .before .write-no .ensures) ∙ q .if1 .left))
+
+pub write-sheet-spec : {M : Type 1} → statement M
+write-sheet-spec =
+    tie.close
+    (tie.spec
+    write-no-requires
+    returns
+    voiced-rows-requires
+    put-sheet-requires
+    same-length
+    returns-2)

@@ -1,0 +1,77 @@
+-- What writing and reading a sheet say and leave, in every case (document 01, "What a call can say"). The sheet's bytes are `Sheet` of sheet_sections, the rows that it can hold `Rows`
+-- of sheet_rows, and a page's contents `Page` of sheet_page. Definitions only.
+use mathlib.Core.Bool.{Bool, cond}
+use mathlib.Core.List.{List, _++_}
+use Prim.Native.Nat.{ℕ, _*_, _/_, min}
+use lib.Dec.{eqb, leb}
+use lib.IntN.{ℤ}
+use lib.ListN.{length, drop}
+use Rattle.best.specs.Best.{every}
+use Rattle.pitch_settings.specs.declared.Settings.{Settings}
+use Rattle.pitch_settings.specs.Settings.{settings-no}
+use Rattle.pitch_table.specs.Row.{row-at}
+use Rattle.sheet_rows.specs.Rows.{row-holds}
+use Rattle.sheet_sections.specs.Sheet.{sheet, rows-of}
+use Rattle.sheet_page.specs.Page.{settings-in, frames-in, page-no, rows-in, numbers-of}
+use Rattle.pitch_sheet.specs.declared.Wrote.{Wrote}
+use Rattle.pitch_sheet.specs.declared.Wrote.the-variants.{Written, Refused as NotWritten}
+use Rattle.pitch_sheet.specs.declared.Got.{Got}
+use Rattle.pitch_sheet.specs.declared.Got.the-variants.{Read, Refused as NotRead}
+
+-- a table's whole rows
+abbrev pub whole-rows : List ℤ → ℕ
+whole-rows t = length t / 8
+
+-- a sheet can hold each of the first n rows
+unfoldable pub rows-hold : Settings → List ℤ → ℕ → Bool
+rows-hold s t n = every n (λ i. row-holds s (row-at t i))
+
+-- ---- writing
+
+-- the refusal of writing n frames on a page of `room` bytes, or 0: 1, 2, 3 the settings; 6 over 4,096 frames; 9 a row that is there, among the first n, breaks the rules; 7 the table has
+-- fewer whole rows; 8 the page is shorter than the sheet
+unfoldable pub write-no : Settings → ℕ → List ℤ → ℕ → ℕ
+write-no s n t room =
+    cond (eqb (settings-no s) 0)
+    (cond (leb n 4096)
+    (cond (rows-hold s t (min n (whole-rows t)))
+    (cond (leb n (whole-rows t))
+    (cond (leb (length (sheet s (rows-of t n))) room) 0 8)
+    7)
+    9)
+    6)
+    (settings-no s)
+
+pub record WriteOutcome : Type 0 where
+  pub answer : Wrote
+  pub page : List ℕ
+
+abbrev pub wrote : Wrote → List ℕ → WriteOutcome
+wrote r page = record { answer = r; page = page }
+
+-- the sheet at the front of the page, the rest kept; a refusal leaves the page
+unfoldable pub writeOf : Settings → ℕ → List ℤ → List ℕ → WriteOutcome
+writeOf s n t page =
+    cond (eqb (write-no s n t (length page)) 0)
+    (wrote (Written (length (sheet s (rows-of t n)))) (sheet s (rows-of t n) ++ drop (length (sheet s (rows-of t n))) page))
+    (wrote (NotWritten (write-no s n t (length page))) page)
+
+-- ---- reading
+
+-- the refusal of reading a page into a table, or 0: 9 the page is no sheet; 7 the table has fewer whole rows than the sheet has frames
+unfoldable pub read-no : List ℕ → List ℤ → ℕ
+read-no page t = cond (eqb (page-no page) 0) (cond (leb (frames-in page) (whole-rows t)) 0 7) (page-no page)
+
+pub record ReadOutcome : Type 0 where
+  pub answer : Got
+  pub table : List ℤ
+
+abbrev pub got : Got → List ℤ → ReadOutcome
+got r t = record { answer = r; table = t }
+
+-- the settings and the frame count, and the rows written whole at the front of the table, the rest kept; a refusal leaves the table
+unfoldable pub readOf : List ℕ → List ℤ → ReadOutcome
+readOf page t =
+    cond (eqb (read-no page t) 0)
+    (got (Read (settings-in page) (frames-in page)) (numbers-of (rows-in page) ++ drop (frames-in page * 8) t))
+    (got (NotRead (read-no page t)) t)

@@ -1,0 +1,26 @@
+-- What a sheet can hold (document 01, "Sheet"). Definition only.
+use mathlib.Core.Path.{_≡_}
+use mathlib.Core.Bool.{true}
+use mathlib.Core.List.{List}
+use Prim.Native.Nat.{ℕ, _≤_, _<_}
+use lib.IntN.{pos}
+use lib.ListN.{length, getD}
+use mir.Syntax.{w32}
+use mir.Val.{SFits}
+use Rattle.pitch_settings.specs.declared.Settings.{Settings}
+use Rattle.pitch_settings.specs.Settings.{settings-no}
+use Rattle.pitch_table.specs.declared.Row.{Row}
+use Rattle.sheet_rows.specs.Rows.{quiet-row, row-holds}
+
+-- what `getD` gives past the end of a list of rows
+abbrev pub no-row : Row
+no-row = quiet-row (pos 1)
+
+-- accepted settings with thresholds of 32 bits, and at most 4,096 rows, each one that a sheet can hold, with a correlation of 32 bits
+pub record Holds (s : Settings) (rs : List Row) : Type 0 where
+  pub settings : settings-no s ≡ 0
+  pub thres1 : SFits w32 (s .thres1)
+  pub thres2 : SFits w32 (s .thres2)
+  pub few : length rs ≤ 4096
+  pub rows : (i : ℕ) → i < length rs → row-holds s (getD rs i no-row) ≡ true
+  pub correlations : (i : ℕ) → i < length rs → SFits w32 (getD rs i no-row .correlation)

@@ -1,0 +1,108 @@
+// The sheet: a track's settings and rows as bytes, written and read back. Neither call has a `requires`.
+ghost use mathlib.Core.Path.{_≡_};
+ghost use Prim.Native.Nat.{_*_, _≤_};
+ghost use lib.ListN.{length};
+ghost use Rattle.pitch_settings.specs.Settings.{settings-no};
+ghost use Rattle.sheet_sections.specs.Sheet.{sheet-length};
+ghost use Rattle.pitch_sheet.specs.Calls.{rows-hold, write-no, wrote, writeOf, got, readOf};
+use pitch_settings::Settings;
+use pitch_settings::settings_no;
+use pitch_table::get_row;
+use sheet_page::head_of;
+use sheet_page::page_no;
+use sheet_page::put_rows;
+use sheet_rows::row_holds;
+use sheet_sections::put_sheet;
+use sheet_sections::sheet_length;
+use sheet_sections::voiced_rows;
+
+// What is said of a writing: the bytes written, or the number of the refusal.
+pub enum Wrote {
+    Written(usize),
+    Refused(usize),
+}
+
+// What is said of a reading: the settings and the frame count, or the number of the refusal.
+pub enum Got {
+    Read(Settings, usize),
+    Refused(usize),
+}
+
+// The bytes of the longest sheet: a page of that length is never too short.
+pub fn longest_sheet() -> usize
+    ensures { λ r. ⌜ r ≡ sheet-length 4096 4096 ⌝ }
+{
+    32804
+}
+
+// Whether a sheet can hold each of the first rows.
+fn rows_hold(s: Settings, table: &[i32], rows: usize) -> bool
+    requires { ⌜ (settings-no s ≡ 0) × (rows * 8 ≤ length (now table)) ⌝ }
+    ensures { λ r. ⌜ r ≡ rows-hold s (now (table .entry)) rows ⌝ }
+{
+    for i in 0..rows {
+        let r = get_row(table, i);
+        if !row_holds(s, r) {
+            return false;
+        }
+    }
+    true
+}
+
+// The number of a writing's refusal on a page of `room` bytes, or 0.
+fn write_no(s: Settings, frames: usize, table: &[i32], room: usize) -> usize
+    ensures { λ r. ⌜ r ≡ write-no s frames (now (table .entry)) room ⌝ }
+{
+    let no = settings_no(s);
+    if no != 0 {
+        return no;
+    }
+    if frames > 4096 {
+        return 6;
+    }
+    let whole = table.len() / 8;
+    if whole < frames {
+        if rows_hold(s, table, whole) {
+            return 7;
+        }
+        return 9;
+    }
+    if rows_hold(s, table, frames) {
+        if sheet_length(frames, voiced_rows(table, frames)) <= room {
+            return 0;
+        }
+        return 8;
+    }
+    9
+}
+
+// Writes the sheet of the first rows at the front of the page.
+pub fn write_sheet(s: Settings, frames: usize, table: &[i32], page: &mut [u8]) -> Wrote
+    ensures { λ r. ⌜ wrote r (now (page .exit)) ≡ writeOf s frames (now (table .entry)) (now (page .entry)) ⌝ }
+{
+    let no = write_no(s, frames, table, page.len());
+    if no != 0 {
+        return Wrote::Refused(no);
+    }
+    let voiced = voiced_rows(table, frames);
+    let end = put_sheet(page, s, table, frames, voiced);
+    Wrote::Written(end)
+}
+
+// Reads the page's sheet, which must be the whole page, into the first rows of the table.
+pub fn read_sheet(page: &[u8], table: &mut [i32]) -> Got
+    ensures { λ r. ⌜ got r (now (table .exit)) ≡ readOf (now (page .entry)) (now (table .entry)) ⌝ }
+{
+    let no = page_no(page);
+    if no != 0 {
+        return Got::Refused(no);
+    }
+    let h = head_of(page);
+    let frames = h.frames;
+    if table.len() / 8 < frames {
+        return Got::Refused(7);
+    }
+    put_rows(page, h, table);
+    let s = h.settings;
+    Got::Read(s, frames)
+}
