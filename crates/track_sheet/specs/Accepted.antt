@@ -1,0 +1,51 @@
+-- Every table that a track can finish is one that writing accepts: the claim, over every list of deliveries. Definitions only; `AcceptedLaws` shows it.
+use mathlib.Core.Path.{_≡_}
+use mathlib.Core.List.{List, _++_}
+use Prim.Native.Nat.{ℕ, _*_, _≤_, _<_}
+use lib.IntN.{ℤ}
+use lib.ListN.{length, take, drop}
+use mir.Syntax.{w32}
+use mir.Val.{SFits}
+use Rattle.lists.specs.Fill.{table}
+use Rattle.pitch_settings.specs.declared.Settings.{Settings}
+use Rattle.pitch_table.specs.declared.Row.{Row}
+use Rattle.pitch_track.specs.Paper.{nothing, rowAt, rowsOf, framesDone}
+use Rattle.pitch_track.specs.Chain.{runOf, finalJ}
+use Rattle.sheet_sections.specs.Sheet.{sheet, sheet-length}
+use Rattle.pitch_sheet.specs.declared.Wrote.the-variants.{Written}
+use Rattle.pitch_sheet.specs.declared.Got.the-variants.{Read}
+use Rattle.pitch_sheet.specs.Calls.{whole-rows, write-no, wrote, writeOf, got, readOf}
+
+-- the finished rows of the track on paper whose accepted samples are j, and their sheet
+unfoldable pub paper-rows : Settings → List ℤ → List Row
+paper-rows s j = table (rowAt s j nothing) (framesDone s j)
+
+unfoldable pub paper-sheet : Settings → List ℤ → List ℕ
+paper-sheet s j = sheet s (paper-rows s j)
+
+-- the deliveries ds, from a fresh start, with the table t
+module _ (s : Settings) (t : List ℤ) (ds : List (List ℤ)) where
+  -- the refusal of writing what they left on a page of `room` bytes, or 0; and the writing of it
+  abbrev pub left-no : ℕ → ℕ
+  left-no room = write-no s (runOf s t ds .track .frames) (runOf s t ds .table) room
+
+  abbrev pub left-sheet : List ℕ
+  left-sheet = paper-sheet s (finalJ s t ds)
+
+  abbrev pub WrittenOn : List ℕ → Type 0
+  WrittenOn page =
+      writeOf s (runOf s t ds .track .frames) (runOf s t ds .table) page ≡ wrote (Written (length left-sheet)) (left-sheet ++ drop (length left-sheet) page)
+
+  pub record AcceptedByWrite : Type 0 where
+    -- nothing is refused but a page that is shorter than the sheet, with 8; so 9 is never said
+    pub room-enough : (room : ℕ) → length left-sheet ≤ room → left-no room ≡ 0
+    pub room-short : (room : ℕ) → room < length left-sheet → left-no room ≡ 8
+    pub never-nine : (room : ℕ) → left-no room ≡ 9 → ⊥
+    -- what is written is the sheet of the track on paper; a page of 32,804 bytes, the longest sheet's, is never too short
+    pub written : (page : List ℕ) → length left-sheet ≤ length page → WrittenOn page
+    pub written-on-longest : (page : List ℕ) → sheet-length 4096 4096 ≤ length page → WrittenOn page
+    -- what was written reads back to the settings, the frames done and the rows of the track on paper, into any table that has the rows; a program's thresholds have 32 bits
+    pub reads-back : SFits w32 (s .thres1) → SFits w32 (s .thres2) → (page : List ℕ) → length left-sheet ≤ length page
+        → (into : List ℤ) → framesDone s (finalJ s t ds) ≤ whole-rows into
+        → readOf (take (length left-sheet) (writeOf s (runOf s t ds .track .frames) (runOf s t ds .table) page .page)) into
+        ≡ got (Read s (framesDone s (finalJ s t ds))) (rowsOf s (finalJ s t ds) nothing (framesDone s (finalJ s t ds)) ++ drop (framesDone s (finalJ s t ds) * 8) into)

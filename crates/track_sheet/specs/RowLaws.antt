@@ -1,0 +1,110 @@
+-- Every row of a whole frame is one that a sheet can hold, and its correlation has 32 bits.
+-- Assumes nothing.
+use mathlib.Core.Path.{_≡_, refl}
+use mathlib.Core.Bool.{Bool, true, false, cond}
+use mathlib.Core.List.{List}
+use Prim.Native.Nat.{ℕ, _≤_}
+use native.Mathlib.Omega.{arith}
+use lib.IntN.{ℤ, pos, natAbs}
+use lib.ListN.{length}
+use lib.Signed.{ltZ, quotZ}
+use mir.Syntax.{w16, w32}
+use mir.Val.{SFits}
+use Rattle.zint.specs.Bound.{abs-prod, fits-abs, abs-fits}
+use Rattle.zint.specs.WrapLaws.{wrap-fits}
+use Rattle.silk_macros.specs.Divide.{quotient}
+use Rattle.silk_macros.specs.declared.Quotient.{Quotient}
+use Rattle.silk_macros.specs.declared.Quotient.the-variants.{Value, ZeroDivisor as ZeroQuotient}
+use Rattle.silk_tables.specs.CarriedLaws.{carried-yes}
+use Rattle.stage2_correlations.specs.Marks.{measured}
+use Rattle.stage2_correlations.specs.Correlations.{cross, divisor, low16-of, ratio, correlation}
+use Rattle.silk_stage2.specs.Scores.{contour-sum}
+use Rattle.silk_stage2.specs.ScoreLaws.{Small, quot-le, contour-small}
+use Rattle.pitch_settings.specs.declared.Settings.{Settings}
+use Rattle.pitch_settings.specs.Settings.{settings-no, frame-length}
+use Rattle.pitch_settings.specs.SettingsLaws.{accepted}
+use Rattle.silk_pitch_analysis.specs.declared.Verdict.{Verdict}
+use Rattle.silk_pitch_analysis.specs.declared.Verdict.the-variants.{Voiced, Unvoiced, ZeroDivisor}
+use Rattle.silk_pitch_analysis.specs.Frame.{row-lag, row-from, row-of, verdict-of}
+use Rattle.silk_pitch_analysis.specs.FrameLaws.{Carried, voiced, unvoiced, zero-divisor}
+use Rattle.silk_pitch_analysis.specs.VerdictLaws.{verdict-carried}
+use Rattle.silk_pitch_analysis.specs.Meaning.{e, lags, Means, VoicedWhen}
+use Rattle.silk_pitch_analysis.specs.Theorem.{verdict-means}
+use Rattle.sheet_rows.specs.Rows.{lag-place, voiced-row, quiet-row, row-holds}
+use Rattle.sheet_rows.specs.RowsLaws.{row-voiced, row-unvoiced, row-zero-divisor, holds-yes}
+
+-- ---- a verdict's row, as a sheet has it
+
+either : (b : Bool) (z : ℤ) → cond b z z ≡ z
+either true z = refl
+either false z = refl
+
+module _ (s : Settings) where
+  voiced-is : (index contour corr : ℤ) → row-from s (Voiced index contour corr) ≡ voiced-row s index contour corr
+  unfolding row-from row-lag voiced-row lag-place
+  voiced-is index contour corr = refl
+
+  unvoiced-is : row-from s Unvoiced ≡ quiet-row (pos 1)
+  unfolding row-from row-lag quiet-row
+  unvoiced-is = simp either
+
+  zero-is : row-from s ZeroDivisor ≡ quiet-row (pos 2)
+  unfolding row-from row-lag quiet-row
+  zero-is = simp either
+
+  -- a verdict whose pair is carried
+  holds : {v : Verdict} → Carried s v → row-holds s (row-from s v) ≡ true
+  unfolding voiced-row quiet-row
+  holds (voiced {index} {contour} {corr} p) = rw (voiced-is index contour corr) (holds-yes s (voiced-row s index contour corr) (row-voiced s index contour corr refl (carried-yes p)))
+  holds unvoiced = rw unvoiced-is (holds-yes s (quiet-row (pos 1)) (row-unvoiced s (pos 0) (pos 0) (pos 0) refl))
+  holds zero-divisor = rw zero-is (holds-yes s (quiet-row (pos 2)) (row-zero-divisor s (pos 0) (pos 0) (pos 0) refl))
+
+-- ---- the correlation: 4 × (sum / nb) of correlations of 16 bits
+
+low-small : (q : Quotient) → natAbs (low16-of q) ≤ 32768
+low-small (Value z) = fits-abs (wrap-fits w16 z)
+low-small ZeroQuotient = omega arith
+
+ratio-small : (x n : ℤ) → natAbs (ratio x n) ≤ 32768
+unfolding ratio
+ratio-small x n = by (ltZ (pos 0) x)
+  where
+    by : (b : Bool) → natAbs (cond b (low16-of (quotient x n (pos 14))) (pos 0)) ≤ 32768
+    by true = low-small (quotient x n (pos 14))
+    by false = omega arith
+
+correlation-small : (x : List ℤ) (kept : List ℕ) (k d : ℕ) → natAbs (correlation x kept k d) ≤ 32768
+unfolding correlation
+correlation-small x kept k d = by (measured kept d)
+  where
+    by : (b : Bool) → natAbs (cond b (ratio (cross x k d) (divisor x k d)) (pos 0)) ≤ 32768
+    by true = ratio-small (cross x k d) (divisor x k d)
+    by false = omega arith
+
+module _ (s : Settings) (x : List ℤ) (prev corr : ℤ) (h : settings-no s ≡ 0) where
+  voiced-small : {index contour r : ℤ} → VoicedWhen s x prev corr index contour r → natAbs r ≤ 131072
+  voiced-small v =
+      let c = correlation (e s x prev corr) (lags s x prev corr) in
+      let small : Small c (s .nb) = record { each = λ k d l a b. correlation-small (e s x prev corr) (lags s x prev corr) k d } in
+      let w = v .won in
+      let sum = contour-sum c (s .nb) (v .winner) (v .winner-contour) in
+      let sized = contour-small c (s .nb) (v .winner) small (w .passes-so .lists .at-least) (w .passes-so .lists .at-most) (v .winner-contour) in
+      let part = quot-le sum (s .nb) 32768 (omega (arith, accepted s h .nb-low)) (omega (arith, sized)) in
+      rw (w .correlates) (abs-prod {A = 32768} {B = 4} (quotZ sum (pos (s .nb))) (pos 4) part (omega arith))
+
+  correlation-fits : (v : Verdict) → Means s x prev corr v → SFits w32 (row-from s v .correlation)
+  unfolding row-from
+  correlation-fits (Voiced index contour r) m = abs-fits {K = 131072} r tt (voiced-small m)
+  correlation-fits Unvoiced m = abs-fits {K = 0} (pos 0) tt (omega arith)
+  correlation-fits ZeroDivisor m = abs-fits {K = 0} (pos 0) tt (omega arith)
+
+-- ---- a whole frame
+
+module _ (s : Settings) (x : List ℤ) (prev corr : ℤ) (h : settings-no s ≡ 0) (len : length x ≡ frame-length s) where
+  pub frame-holds : row-holds s (row-of s x prev corr) ≡ true
+  unfolding row-of
+  frame-holds = holds s (verdict-carried s x h len prev corr)
+
+  pub frame-correlation : SFits w32 (row-of s x prev corr .correlation)
+  unfolding row-of
+  frame-correlation = correlation-fits s x prev corr h (verdict-of s x prev corr) (verdict-means s x prev corr h len)
