@@ -1,0 +1,69 @@
+-- `pitch_export::pitch_frame` meets its contract. Assumes nothing.
+use mathlib.Core.Path.{_≡_, sym, ap, _∙_}
+use mathlib.Core.List.{List}
+use borrow.Author.Needs.{needs}
+use lib.IntN.{ℤ}
+use Rattle.pitch_settings.specs.declared.Settings.{Settings}
+use Rattle.zint.specs.Read.{r-var}
+use Rattle.silk_pitch_analysis.specs.declared.Answer.{Answer}
+use Rattle.silk_pitch_analysis.specs.Frame.{outcome, frameOf}
+use Rattle.pitch_export.specs.Export.{Numbers, settings, numbers, exported, answered, exportOf}
+use Rattle.pitch_export.specs.ExportLaws.{export-is}
+use Rattle.pitch_export.proofs.pitch_frame.Statement.{statement}
+use Rattle.pitch_export.proofs.pitch_frame.Tie as tie
+
+-- the frame call's outcome, in the numbers that are told
+module _ (c : tie.After-silk-pitch-analysis-core) where
+  abbrev start : tie.Start
+  start = c .before .before
+
+  abbrev s : ℤ → ℤ → Settings
+  s thres1 thres2 = settings (start .args .rate) (start .args .nb) (start .args .complexity) thres1 thres2
+
+  abbrev at-exit : List ℤ
+  at-exit = c .silk-pitch-analysis-core .last .1 .0
+
+  abbrev old : Numbers
+  old = numbers (start .args .verdict .now) (start .args .index .now) (start .args .contour .now) (start .args .correlation .now)
+
+  said : outcome (c .silk-pitch-analysis-core .result) at-exit
+      ≡ frameOf (s (start .args .thres1) (start .args .thres2)) (start .args .frame .now) (start .args .pitch-out .now) (start .args .prev-lag) (start .args .prev-corr)
+  said =
+      c .silk-pitch-analysis-core .ensures
+      ∙ (λ i. frameOf (s (r-var (start .fits .thres1) .val i) (r-var (start .fits .thres2) .val i)) (start .args .frame .now) (start .args .pitch-out .now) (r-var (start .fits .prev-lag) .val i) (r-var (start .fits .prev-corr) .val i))
+
+  told : answered (c .silk-pitch-analysis-core .result) at-exit old
+      ≡ exportOf (s (start .args .thres1) (start .args .thres2)) (start .args .frame .now) (start .args .pitch-out .now) (start .args .prev-lag) (start .args .prev-corr) old
+  told = export-is _ _ _ _ _ old (c .silk-pitch-analysis-core .result) at-exit said
+
+silk-pitch-analysis-core-requires : tie.Need-silk-pitch-analysis-core-requires
+silk-pitch-analysis-core-requires c κs = search needs
+
+enum-known-answer : tie.Need-enum-known-answer
+enum-known-answer c = search needs
+
+enum-known-answer-2 : tie.Need-enum-known-answer-2
+enum-known-answer-2 c = search needs
+
+put-verdict-requires : tie.Need-put-verdict-requires
+put-verdict-requires c κs = search needs
+
+same-length : tie.Need-same-length
+same-length c = search needs
+
+returns : tie.Need-returns
+returns c =
+    let f = c .before .before .before .before in
+    ap (λ (a : Answer). answered a (at-exit f) (old f)) (sym (c .before .answer .given .1)) ∙ told f
+
+same-length-2 : tie.Need-same-length-2
+same-length-2 c = search needs
+
+returns-2 : tie.Need-returns-2
+returns-2 c =
+    let k = c .before .before .before .before .before .before in
+    let f = k .before .before .before in
+    (λ i. exported 0 (at-exit f) (c .put-verdict .ensures i)) ∙ ap (λ (a : Answer). answered a (at-exit f) (old f)) (sym (k .answer2 .given .1)) ∙ told f
+
+pub pitch-frame-spec : {M : Type 1} → statement M
+pitch-frame-spec = tie.close (tie.spec silk-pitch-analysis-core-requires enum-known-answer enum-known-answer-2 put-verdict-requires same-length returns same-length-2 returns-2)

@@ -1,0 +1,3 @@
+-- The exported frame call: definitions in `Export`; that its number is the refusal's in `ExportLaws`.
+pub mod Export
+pub mod ExportLaws

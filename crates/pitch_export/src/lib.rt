@@ -1,0 +1,76 @@
+// The frame call for programs in C and Rust, on numbers and slices.
+ghost use mathlib.Core.Path.{_≡_};
+ghost use Rattle.pitch_export.specs.Export.{settings, numbers, verdict-numbers, exported, exportOf};
+use pitch_settings::Settings;
+use silk_pitch_analysis::Answer;
+use silk_pitch_analysis::Verdict;
+use silk_pitch_analysis::silk_pitch_analysis_core;
+
+// The four numbers of a verdict.
+fn put_verdict(
+    v: Verdict,
+    verdict: &mut i32,
+    index: &mut i32,
+    contour: &mut i32,
+    correlation: &mut i32,
+)
+    ensures { λ _. ⌜ numbers (now (verdict .exit)) (now (index .exit)) (now (contour .exit)) (now (correlation .exit)) ≡ verdict-numbers v ⌝ }
+{
+    *index = 0;
+    *contour = 0;
+    *correlation = 0;
+    match v {
+        Verdict::Voiced {
+            index: i,
+            contour: c,
+            correlation: q,
+        } => {
+            *verdict = 0;
+            *index = i;
+            *contour = c;
+            *correlation = q;
+        }
+        Verdict::Unvoiced => {
+            *verdict = 1;
+        }
+        Verdict::ZeroDivisor => {
+            *verdict = 2;
+        }
+    }
+}
+
+// The frame call: 0, or the number of the refusal (1 to 5), which changes nothing that is lent.
+#[no_mangle]
+pub extern "C" fn pitch_frame(
+    frame: &[i16],
+    pitch_out: &mut [i32],
+    rate: usize,
+    nb: usize,
+    complexity: usize,
+    thres1: i32,
+    thres2: i32,
+    prev_lag: i32,
+    prev_corr: i32,
+    verdict: &mut i32,
+    index: &mut i32,
+    contour: &mut i32,
+    correlation: &mut i32,
+) -> usize
+    ensures { λ r. ⌜ exported r (now («pitch_out» .exit)) (numbers (now (verdict .exit)) (now (index .exit)) (now (contour .exit)) (now (correlation .exit))) ≡ exportOf (settings rate nb complexity thres1 thres2) (now (frame .entry)) (now («pitch_out» .entry)) «prev_lag» «prev_corr» (numbers (now (verdict .entry)) (now (index .entry)) (now (contour .entry)) (now (correlation .entry))) ⌝ }
+{
+    let s = Settings {
+        rate,
+        nb,
+        complexity,
+        thres1,
+        thres2,
+    };
+    let answer = silk_pitch_analysis_core(frame, pitch_out, s, prev_lag, prev_corr);
+    match answer {
+        Answer::Refused(no) => no,
+        Answer::Analysed(v) => {
+            put_verdict(v, verdict, index, contour, correlation);
+            0
+        }
+    }
+}
