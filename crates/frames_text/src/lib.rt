@@ -12,6 +12,7 @@ use pitch_settings::settings_no;
 use pitch_text::put_refused;
 use pitch_text::put_row_text;
 use sheet_bytes::i32_at;
+use silk_pitch_analysis::RowAnswer;
 use silk_pitch_analysis::frame_row;
 
 // How long a text is, and the number of the refusal that it tells, or 0.
@@ -79,7 +80,10 @@ pub fn frame_text(bytes: &[u8], samples: &mut [i16], out: &mut [u8]) -> Line
     load_samples(bytes, 19, &mut samples[..n]);
     let lag = i32_at(bytes, 11);
     let correlation = i32_at(bytes, 15);
-    let row = frame_row(s, &samples[..n], lag, correlation);
+    let answer = frame_row(s, &samples[..n], lag, correlation);
+    let RowAnswer::Analysed(row) = answer else {
+        return Line { len: 0, number };
+    };
     let len = put_row_text(out, 0, s.nb, row);
     Line { len, number }
 }

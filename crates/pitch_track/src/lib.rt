@@ -5,6 +5,7 @@ ghost use Prim.Native.Nat.{_+_, _-_, _*_, _<_, _≤_};
 ghost use lib.ListN.{length, take, drop, getD};
 ghost use lib.IntN.{pos};
 ghost use Rattle.pitch_settings.specs.Settings.{settings-no, frame-length, hop-length};
+ghost use Rattle.silk_pitch_analysis.specs.declared.RowAnswer.the-variants.{Analysed};
 ghost use Rattle.pitch_track.specs.Paper.{framesIn, rowOf, after, before, rowsOf};
 ghost use Rattle.pitch_track.specs.Chain.{numberOf, partsOf, total, Ended};
 ghost use Rattle.pitch_track.specs.Step.{padded, startOf, refusalOf, deliverOf, outcome, zeros};
@@ -14,6 +15,7 @@ use pitch_settings::hop_length;
 use pitch_settings::settings_no;
 use pitch_table::Row;
 use pitch_table::put_row;
+use silk_pitch_analysis::RowAnswer;
 use silk_pitch_analysis::frame_row;
 
 // The lag of a row's last subframe and its correlation.
@@ -127,10 +129,17 @@ fn gather(held: &[i16], count: usize, samples: &[i16], from: usize, size: usize)
     out
 }
 
-// The row of the frame that starts at `from`.
-fn window_row(s: Settings, held: &[i16], count: usize, samples: &[i16], from: usize, p: Prev) -> Row
+// What is said of the frame that starts at `from`: its row.
+fn window_row(
+    s: Settings,
+    held: &[i16],
+    count: usize,
+    samples: &[i16],
+    from: usize,
+    p: Prev,
+) -> RowAnswer
     requires { ⌜ (settings-no s ≡ 0) × (count ≤ length (now held)) × (from + frame-length s ≤ count + length (now samples)) ⌝ }
-    ensures { λ r. ⌜ r ≡ rowOf s (take (frame-length s) (drop from (take count (now (held .entry)) ++ now (samples .entry)))) p ⌝ }
+    ensures { λ r. ⌜ r ≡ Analysed (rowOf s (take (frame-length s) (drop from (take count (now (held .entry)) ++ now (samples .entry)))) p) ⌝ }
 {
     let len = frame_length(s);
     let buffer = gather(held, count, samples, from, len);
@@ -165,7 +174,10 @@ fn put_rows(
     let mut from = 0;
     let mut k = 0;
     while k < new {
-        let row = window_row(s, held, count, samples, from, q);
+        let answer = window_row(s, held, count, samples, from, q);
+        let RowAnswer::Analysed(row) = answer else {
+            return q;
+        };
         put_row(table, frames + k, row);
         q = left_by(s, row);
         from += hop;

@@ -26,6 +26,8 @@ use Rattle.silk_pitch_analysis.specs.declared.Verdict.{Verdict}
 use Rattle.silk_pitch_analysis.specs.declared.Verdict.the-variants.{Voiced, Unvoiced, ZeroDivisor}
 use Rattle.silk_pitch_analysis.specs.declared.Answer.{Answer}
 use Rattle.silk_pitch_analysis.specs.declared.Answer.the-variants.{Analysed, Refused}
+use Rattle.silk_pitch_analysis.specs.declared.RowAnswer.{RowAnswer}
+use Rattle.silk_pitch_analysis.specs.declared.RowAnswer.the-variants.{Analysed as RowAnalysed, Refused as RowRefused}
 
 -- ---- the signals: the working frame w, its 8 kHz form e and its 4 kHz form f
 
@@ -146,3 +148,9 @@ unfoldable pub frameOf : Settings → List ℤ → List ℤ → ℤ → ℤ → 
 frameOf s x l prev corr =
     cond (eqb (frame-no s (length x) (length l)) 0) (analysed s (verdict-of s (take (frame-length s) x) prev corr) l)
     (outcome (Refused (frame-no s (length x) (length l))) l)
+
+-- ---- the row call: the same refusals, and the row of the first N samples. A row has four lag places, enough for every nb, so there is no refusal 5
+
+unfoldable pub row-answer : Settings → List ℤ → ℤ → ℤ → RowAnswer
+row-answer s x prev corr =
+    cond (eqb (frame-no s (length x) 4) 0) (RowAnalysed (row-of s (take (frame-length s) x) prev corr)) (RowRefused (frame-no s (length x) 4))

@@ -6,15 +6,17 @@ use mathlib.Core.List.{List}
 use mathlib.Core.Logic.{_⊎_, ⊎-elim}
 use Prim.Native.Nat.{ℕ, _+_, _-_, _*_, _/_, _≤_, _<_}
 use native.Mathlib.Omega.{arith}
-use borrow.Author.Tests.{eqb-true, eqb-false, ltb-false}
+use borrow.Author.Tests.{eq-eqb, le-ltb, eqb-true, eqb-false, ltb-false}
 use lib.Dec.{eqb, ltb}
 use lib.IntN.{ℤ, pos, natAbs, _-ℤ_}
-use lib.ListN.{length}
+use lib.ListN.{length, take}
+use lib.Seq.{take-all}
 use lib.Signed.{_<ℤ_}
 use Rattle.zint.specs.Diff.{eq-of, sub-ud′, of-lt, zarith}
 use Rattle.pitch_settings.specs.declared.Settings.{Settings}
 use Rattle.pitch_settings.specs.Settings.{settings-no, frame-length}
 use Rattle.pitch_settings.specs.SettingsLaws.{accepted}
+use Rattle.pitch_table.specs.declared.Row.{Row}
 use Rattle.silk_tables.specs.Tables.{contours, contours2, in-use, greatest-index}
 use Rattle.silk_tables.specs.TableLaws.{in-use-bounds}
 use Rattle.silk_tables.specs.ContourLaws.{contours-le-34}
@@ -27,7 +29,9 @@ use Rattle.silk_stage3.specs.Theorem.{Meaning, stage3-means}
 use Rattle.silk_stage3.specs.declared.Found.the-variants.{Pair}
 use Rattle.silk_pitch_analysis.specs.declared.Verdict.{Verdict}
 use Rattle.silk_pitch_analysis.specs.declared.Verdict.the-variants.{Voiced, Unvoiced, ZeroDivisor}
-use Rattle.silk_pitch_analysis.specs.Frame.{from-pair, frame-no}
+use Rattle.silk_pitch_analysis.specs.declared.RowAnswer.{RowAnswer}
+use Rattle.silk_pitch_analysis.specs.declared.RowAnswer.the-variants.{Analysed as RowAnalysed, Refused as RowRefused}
+use Rattle.silk_pitch_analysis.specs.Frame.{from-pair, row-of, frame-no, row-answer}
 
 -- a voiced verdict's pair has an index and a contour of these settings
 pub data Carried (s : Settings) : Verdict → Type 0 where
@@ -120,3 +124,19 @@ taken s n m h = by (eqb (settings-no s) 0) (ltb n (frame-length s)) (ltb m (s .n
     by true false true p q r e = absurd (omega arith)
     by true false false p q r e = record { settings = eqb-true (settings-no s) 0 p; samples = ltb-false n (frame-length s) q; places = ltb-false m (s .nb) r }
     by false u v p q r e = absurd (eqb-false (settings-no s) 0 p e)
+
+-- accepted settings and enough samples: the row is said
+pub row-taken : (s : Settings) (x : List ℤ) (prev corr : ℤ) → settings-no s ≡ 0 → frame-length s ≤ length x → row-answer s x prev corr ≡ RowAnalysed (row-of s (take (frame-length s) x) prev corr)
+unfolding row-answer frame-no
+row-taken s x prev corr h l = rw (eq-eqb _ 0 h, le-ltb (length x) (frame-length s) l, le-ltb 4 (s .nb) (accepted s h .nb-high))
+
+pub row-whole : (s : Settings) (x : List ℤ) (prev corr : ℤ) → settings-no s ≡ 0 → length x ≡ frame-length s → row-answer s x prev corr ≡ RowAnalysed (row-of s x prev corr)
+row-whole s x prev corr h l =
+    row-taken s x prev corr h (omega arith) ∙ ap (λ (y : List ℤ). RowAnalysed (row-of s y prev corr)) (take-all (frame-length s) x (omega arith))
+
+-- an answer has one row, and an answer with a row is no refusal
+pub one-row : (o : RowAnswer) (r q : Row) → o ≡ RowAnalysed r → o ≡ RowAnalysed q → r ≡ q
+one-row o r q e h = cc
+
+pub no-refusal : (o : RowAnswer) (r : Row) (n : ℕ) → o ≡ RowAnalysed r → o ≡ RowRefused n → ⊥
+no-refusal o r n e h = let z : _≡_ {A = ℕ} 0 1 = cc in omega arith

@@ -9,7 +9,8 @@ use native.Mathlib.Omega.{arith}
 use borrow.Author.Tests.{eq-eqb, eqb-true, eqb-false}
 use lib.Dec.{eqb}
 use lib.IntN.{ℤ}
-use lib.ListN.{length}
+use lib.ListN.{length, take}
+use lib.Seq.{length-take-le}
 use Rattle.pitch_settings.specs.declared.Settings.{Settings}
 use Rattle.pitch_settings.specs.Settings.{settings-no, frame-length}
 use Rattle.pitch_settings.specs.SettingsLaws.{accepted}
@@ -87,3 +88,7 @@ module _ (s : Settings) (w : List ℤ) (h : settings-no s ≡ 0) (len : length w
 pub verdict-carried : (s : Settings) (x : List ℤ) → settings-no s ≡ 0 → length x ≡ frame-length s → (prev corr : ℤ) → Carried s (verdict-of s x prev corr)
 unfolding verdict-of
 verdict-carried s x h len prev corr = staged-carried s (scaled x) h (length-scaled x ∙ len) prev corr
+
+-- the verdict of the first N samples
+pub first-carried : (s : Settings) (x : List ℤ) → settings-no s ≡ 0 → frame-length s ≤ length x → (prev corr : ℤ) → Carried s (verdict-of s (take (frame-length s) x) prev corr)
+first-carried s x h l prev corr = verdict-carried s (take (frame-length s) x) h (length-take-le (frame-length s) x l) prev corr

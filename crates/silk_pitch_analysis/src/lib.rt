@@ -1,10 +1,10 @@
 // The frame call: one whitened frame in; verdict, lag index, contour index, correlation and subframe lags out.
 ghost use mathlib.Core.Path.{_≡_};
 ghost use Prim.Native.Nat.{_+_, _*_, _<_, _≤_};
-ghost use lib.ListN.{length};
+ghost use lib.ListN.{length, take};
 ghost use Rattle.lists.specs.Fill.{filled};
 ghost use Rattle.pitch_settings.specs.Settings.{settings-no, frame-length};
-ghost use Rattle.silk_pitch_analysis.specs.Frame.{from-pair, last-stage, from-winner, from-screen, staged, verdict-of, lag-of, row-lag, row-from, row-of, frame-no, outcome, frameOf};
+ghost use Rattle.silk_pitch_analysis.specs.Frame.{from-pair, last-stage, from-winner, from-screen, staged, verdict-of, lag-of, row-lag, row-from, row-answer, frame-no, outcome, frameOf};
 ghost use Rattle.silk_stage1.specs.Stage1.{stage1};
 ghost use Rattle.silk_stage2.specs.Stage2.{stage2};
 ghost use Rattle.stage2_correlations.specs.Marks.{Kept};
@@ -41,6 +41,12 @@ pub enum Verdict {
 // What the frame call says: the verdict, or the number of a refusal.
 pub enum Answer {
     Analysed(Verdict),
+    Refused(usize),
+}
+
+// What `frame_row` says: the frame's row, or the number of a refusal.
+pub enum RowAnswer {
+    Analysed(Row),
     Refused(usize),
 }
 
@@ -248,12 +254,12 @@ fn analyse_working(w: &[i16], s: Settings, prev_lag: i32, prev_corr: i32) -> Ver
     stages(w, &buf_8khz[..n8], &buf_4khz[..n4], s, prev_lag, prev_corr)
 }
 
-// A frame's verdict.
+// The verdict of the first N samples.
 fn analyse(frame: &[i16], s: Settings, prev_lag: i32, prev_corr: i32) -> Verdict
-    requires { ⌜ (settings-no s ≡ 0) × (length (now frame) ≡ frame-length s) ⌝ }
-    ensures { λ r. ⌜ r ≡ verdict-of s (now (frame .entry)) «prev_lag» «prev_corr» ⌝ }
+    requires { ⌜ (settings-no s ≡ 0) × (frame-length s ≤ length (now frame)) ⌝ }
+    ensures { λ r. ⌜ r ≡ verdict-of s (take (frame-length s) (now (frame .entry))) «prev_lag» «prev_corr» ⌝ }
 {
-    let n = frame.len();
+    let n = frame_length(s);
     let mut scratch = [0i16; 640];
     let shift = frame_shift(frame, n);
     scale_into(frame, &mut scratch, n, shift);
@@ -261,13 +267,17 @@ fn analyse(frame: &[i16], s: Settings, prev_lag: i32, prev_corr: i32) -> Verdict
     analyse_working(w, s, prev_lag, prev_corr)
 }
 
-// The row of one frame.
-pub fn frame_row(s: Settings, x: &[i16], prev_lag: i32, prev_corr: i32) -> Row
-    requires { ⌜ (settings-no s ≡ 0) × (length (now x) ≡ frame-length s) ⌝ }
-    ensures { λ r. ⌜ r ≡ row-of s (now (x .entry)) «prev_lag» «prev_corr» ⌝ }
+// The row of the first N samples, or refusals 1 to 4 in order: a row has four lag places, so 5 never comes.
+pub fn frame_row(s: Settings, x: &[i16], prev_lag: i32, prev_corr: i32) -> RowAnswer
+    ensures { λ r. ⌜ r ≡ row-answer s (now (x .entry)) «prev_lag» «prev_corr» ⌝ }
 {
+    let no = frame_no(s, x.len(), 4);
+    if no != 0 {
+        return RowAnswer::Refused(no);
+    }
     let v = analyse(x, s, prev_lag, prev_corr);
-    verdict_row(s, v)
+    let row = verdict_row(s, v);
+    RowAnswer::Analysed(row)
 }
 
 // The frame call. Refusals 1 to 5 in order leave the lag places as they are; else the first N samples are analysed, and the first nb lag places are written.
@@ -284,8 +294,7 @@ pub fn silk_pitch_analysis_core(
     if no != 0 {
         return Answer::Refused(no);
     }
-    let n = frame_length(s);
-    let v = analyse(&frame[..n], s, prev_lag, prev_corr);
+    let v = analyse(frame, s, prev_lag, prev_corr);
     put_lags(pitch_out, s, v);
     Answer::Analysed(v)
 }

@@ -1,4 +1,5 @@
 -- `frames_text::frame_text` meets its contract. Assumes nothing.
+use borrow.Author.Needs.{needs}
 use mathlib.Core.Path.{_≡_, sym, ap, ap₂, _∙_}
 use mathlib.Core.List.{_++_}
 use Prim.Native.Nat.{_+_, _*_, _≤_}
@@ -11,6 +12,9 @@ use Rattle.pitch_settings.specs.declared.Settings.{Settings}
 use Rattle.pitch_settings.specs.Settings.{settings-no, frame-length}
 use Rattle.pitch_settings.specs.SettingsLaws.{accepted}
 use Rattle.pitch_table.specs.declared.Row.{Row}
+use Rattle.silk_pitch_analysis.specs.declared.RowAnswer.the-variants.{Analysed}
+use Rattle.silk_pitch_analysis.specs.Frame.{row-answer}
+use Rattle.silk_pitch_analysis.specs.FrameLaws.{row-whole, one-row, no-refusal}
 use Rattle.pitch_input.specs.Input.{settings-in, samples-from}
 use Rattle.pitch_input.specs.InputLaws.{loaded, length-samples}
 use Rattle.pitch_text.specs.Text.{row-text}
@@ -88,7 +92,7 @@ i32-at-requires : tie.Need-i32-at-requires
 i32-at-requires c κs = omega (arith, all (c .before .before .before .before .before) .enough)
 
 i32-at-requires-2 : tie.Need-i32-at-requires-2
-i32-at-requires-2 c κs = all (c .before .before .before .before .before .before) .enough
+i32-at-requires-2 c κs = omega (arith, all (c .before .before .before .before .before .before) .enough)
 
 slice-reshare-prefix-frame-row : tie.Need-slice-reshare-prefix-frame-row
 slice-reshare-prefix-frame-row c = rw length-append (omega (arith, front (c .before .before .before)))
@@ -97,39 +101,68 @@ slice-aggregate-frame-row : tie.Need-slice-aggregate-frame-row
 slice-aggregate-frame-row c = sym (length-take-le _ _ (rw length-append (omega (arith, front (c .before .before .before .before)))))
 
 frame-row-requires : tie.Need-frame-row-requires
-frame-row-requires c κs =
-    let d = c .before .before .before .before in
-    (known (d .before .before .before), ap length (x-is d) ∙ length-samples _ 19 _ ∙ d .before .before .frame-length .ensures)
+frame-row-requires c κs = tt
+
+-- what is said of the frame: the record's row
+module _ (c : tie.After-frame-row) where
+  abbrev sized : tie.After-load-samples
+  sized = c .before .before .before .before .before
+
+  abbrev start : tie.Start
+  start = sized .before .before .before .before .before .before .before .before
+
+  said : c .frame-row .result ≡ Analysed (record-row (start .args .bytes .now))
+  unfolding record-row
+  said =
+      let lag = r-got w32 (c .before .before .before .i32-at .ok) (c .before .before .before .i32-at .ensures) .val in
+      let correlation = r-got w32 (c .before .before .i32-at2 .ok) (c .before .before .i32-at2 .ensures) .val in
+      let t = sized .before .before .before .settings-in .ensures in
+      let x = x-is sized ∙ ap (samples-from (start .args .bytes .now) 19) (size (sized .before .before)) in
+      c .frame-row .ensures
+      ∙ (λ i. row-answer (t i) (x i) (lag i) (correlation i))
+      ∙ row-whole (settings-in (start .args .bytes .now)) (samples-from (start .args .bytes .now) 19 (frame-length (settings-in (start .args .bytes .now)))) _ _ (all (sized .before .before .before .before) .known) (length-samples _ 19 _)
+
+enum-known-answer : tie.Need-enum-known-answer
+enum-known-answer c = search needs
+
+enum-told : tie.Need-enum-told
+enum-told c = search needs
+
+-- the frame is never refused
+never : (c : tie.After-enum-told) → ⊥
+never c = no-refusal _ _ _ (said (c .before .before)) (c .enum-told .given .1)
+
+same-length-2 : tie.Need-same-length-2
+same-length-2 c = absurd (never c)
+
+returns-2 : tie.Need-returns-2
+returns-2 c = absurd (never c)
 
 put-row-text-requires : tie.Need-put-row-text-requires
 put-row-text-requires c κs =
-    let d = c .before .before .before .before .before .before .before .before .before in
-    (accepted _ (known d) .nb-high, c .before .before .before .before .before .before .before .before .before .before .before .before .before .before .pre .1)
-
-same-length-2 : tie.Need-same-length-2
-same-length-2 c =
-    let d = c .before .before .before .before .before .before .before .before .before in
-    rw length-append (omega (arith, front d, length-drop (d .before .before .frame-length .result) (c .before .before .before .before .before .before .before .before .before .before .before .before .before .before .before .before .before .args .samples .now), room (d .before .before)))
+    let d = sized (c .before .before .before .before) in
+    (accepted _ (known (d .before .before .before)) .nb-high, start (c .before .before .before .before) .pre .1)
 
 same-length-3 : tie.Need-same-length-3
-same-length-3 c = c .before .before .put-row-text .kept .0
+same-length-3 c =
+    let d = sized (c .before .before .before .before .before .before .before) in
+    rw length-append (omega (arith, front d, length-drop (d .before .before .frame-length .result) (start (c .before .before .before .before .before .before .before) .args .samples .now), room (d .before .before)))
 
-returns-2 : tie.Need-returns-2
-unfolding record-row
-returns-2 c =
-    let s = c .before .before .before .before .before .before .before .before .before .before .before .before .before .before .before .before .before in
-    let d = c .before .before .before .before .before .before .before .before .before in
-    let k = c .before .before .before .before .before .before .before .before .before .before .before .before .before .before .record-no in
+same-length-4 : tie.Need-same-length-4
+same-length-4 c = c .before .before .put-row-text .kept .0
+
+returns-3 : tie.Need-returns-3
+returns-3 c =
+    let f = c .before .before .before .before .before .before .before in
+    let s = start f in
+    let d = sized f in
+    let k = d .before .before .before .before .before .record-no in
     let w = c .before .before .put-row-text .ensures in
-    let e = sym (c .before .before .before .before .before .before .before .before .before .before .before .before .before .if1 .left) ∙ k .ensures in
-    let lag = r-got w32 (c .before .before .before .before .before .before .before .i32-at .ok) (c .before .before .before .before .before .before .before .i32-at .ensures) .val in
-    let correlation = r-got w32 (c .before .before .before .before .before .before .i32-at2 .ok) (c .before .before .before .before .before .before .i32-at2 .ensures) .val in
-    let t = c .before .before .before .before .before .before .before .before .before .before .before .before .settings-in .ensures in
-    let x = x-is d ∙ ap (samples-from (s .args .bytes .now) 19) (size (d .before .before)) in
-    let row : c .before .before .before .before .frame-row .result ≡ record-row (s .args .bytes .now) = c .before .before .before .before .frame-row .ensures ∙ rw (lag, correlation, t, x) in
+    let e = sym (d .before .before .before .before .if1 .left) ∙ k .ensures in
+    let row : c .before .before .before .before .before .answer .given .0 .0 ≡ record-row (s .args .bytes .now) = one-row _ _ _ (c .before .before .before .before .before .answer .given .1) (said f) in
     record {
       number-is = k .ensures;
-      text-is = put-front (put-as (w .0) (ap₂ (λ (v : Settings) (q : Row). row-text (v .nb) q) t row)) (omega (arith, w .1, s .pre .1)) ∙ text-row (s .args .bytes .now) e;
+      text-is = put-front (put-as (w .0) (ap₂ (λ (v : Settings) (q : Row). row-text (v .nb) q) (d .before .before .before .settings-in .ensures) row)) (omega (arith, w .1, s .pre .1)) ∙ text-row (s .args .bytes .now) e;
       short = w .1;
     }
 
@@ -152,7 +185,11 @@ frame-text-spec =
     slice-reshare-prefix-frame-row
     slice-aggregate-frame-row
     frame-row-requires
-    put-row-text-requires
+    enum-known-answer
+    enum-told
     same-length-2
+    returns-2
+    put-row-text-requires
     same-length-3
-    returns-2)
+    same-length-4
+    returns-3)

@@ -5,6 +5,7 @@ use native.Mathlib.Nat.{suc-mul}
 use lib.Seq.{sets}
 use Rattle.pitch_table.specs.declared.Row.{Row}
 use Rattle.pitch_table.specs.Row.{numbers}
+use Rattle.silk_pitch_analysis.specs.FrameLaws.{one-row, no-refusal}
 use Rattle.pitch_track.specs.Paper.{after, rowAt}
 use borrow.Author.Needs.{needs}
 use mathlib.Core.Path.{_≡_, refl, sym, ap, _∙_}
@@ -51,22 +52,64 @@ loop-holds c =
 window-row-requires : tie.Need-window-row-requires Inv-loop μ-loop
 window-row-requires c κs = (c .before .before .before .pre .0, c .before .before .before .pre .1, omega (arith, inside c))
 
+enum-known-answer : tie.Need-enum-known-answer Inv-loop μ-loop
+enum-known-answer c = search needs
+
+enum-told : tie.Need-enum-told Inv-loop μ-loop
+enum-told c = search needs
+
+-- the frame is never refused
+never : (c : tie.After-enum-told Inv-loop μ-loop) → ⊥
+never c = no-refusal _ _ _ (c .before .before .window-row .ensures) (c .enum-told .given .1)
+
+same-length : tie.Need-same-length Inv-loop μ-loop
+same-length c = absurd (never c)
+
+returns : tie.Need-returns Inv-loop μ-loop
+returns c = absurd (never c)
+
+-- a turn: the row of the frame, and the table before it is written
+module _ (c : tie.After-put-row-arg Inv-loop μ-loop) where
+  abbrev here : tie.In-loop Inv-loop μ-loop
+  here = c .before .before .before .before .before
+
+  abbrev start : tie.Start Inv-loop μ-loop
+  start = here .before .before .before
+
+  abbrev pending : List ℤ
+  pending = take (start .args .count) (start .args .held .now) ++ start .args .samples .now
+
+  abbrev k : ℕ
+  k = here .before .loop .k
+
+  row : c .before .before .answer .given .0 .0 ≡ rowAt (start .args .s) pending (start .args .p) k
+  row =
+      let l = here .before .loop in
+      one-row _ _ _ (c .before .before .answer .given .1) (c .before .before .before .before .window-row .ensures)
+      ∙ row-is (start .args .s) pending (start .args .p) k (l .from) (l .q) (l .inv .1) (l .inv .2)
+
+  room : (start .args .frames + start .args .new) * 8 ≤ length (start .args .table .now)
+  room = start .pre .3 (omega (arith, here .before .loop .inv .0, here .loop-test .taken))
+
+  size : length (here .before .loop .table) ≡ length (start .args .table .now)
+  size =
+      ap length (here .before .loop .inv .3)
+      ∙ length-written (start .args .s) pending (start .args .p) (start .args .table .now) (start .args .frames) k (λ h. omega (arith, room, here .loop-test .taken))
+
 add-put-row : tie.Need-add-put-row Inv-loop μ-loop
-add-put-row c = omega (arith, c .before .before .before .before .before .good, c .before .before .before .before .before .pre .3 (omega arith))
+add-put-row c = omega (arith, start c .good, room c, here c .loop-test .taken)
 
 put-row-requires : tie.Need-put-row-requires Inv-loop μ-loop
-put-row-requires c κs =
-    let a = c .before .before .before .before .before .args in
-    let x = take (a .count) (a .held .now) ++ a .samples .now in
-    let e : length (c .before .before .before .loop .table) ≡ length (a .table .now) =
-    ap length (c .before .before .before .loop .inv .3) ∙ length-written (a .s) x (a .p) (a .table .now) (a .frames) (c .before .before .before .loop .k) (λ h. omega (arith, c .before .before .before .before .before .pre .3 (omega arith))) in
-    omega (arith, c .before .before .before .before .before .pre .3 (omega arith))
+put-row-requires c κs = omega (arith, size c, room c, here c .loop-test .taken)
 
 left-by-requires : tie.Need-left-by-requires Inv-loop μ-loop
 left-by-requires c κs = search needs
 
 add-from : tie.Need-add-from Inv-loop μ-loop
-add-from c = let z = accepted _ (c .before .before .before .before .before .before .before .before .pre .0) in omega (arith, inside (c .before .before .before .before .before), c .before .before .before .before .before .before .before .before .good, c .before .before .before .before .before .before .before .before .pre)
+add-from c =
+    let d = c .before .before .before in
+    let z = accepted _ (start d .pre .0) in
+    omega (arith, inside (here d), here d .before .loop .inv .1, here d .before .before .hop-length .ensures, start d .good, start d .pre)
 
 add-k : tie.Need-add-k Inv-loop μ-loop
 add-k c = omega arith
@@ -76,28 +119,28 @@ loop-less c = omega arith
 
 loop-again : tie.Need-loop-again Inv-loop μ-loop
 loop-again c =
-    let a = c .before .before .before .before .before .before .before .before .args in
-    let x = take (a .count) (a .held .now) ++ a .samples .now in
-    let k = c .before .before .before .before .before .before .loop .k in
-    let row = row-is (a .s) x (a .p) k (c .before .before .before .before .before .before .loop .from) (c .before .before .before .before .before .before .loop .q) (c .before .before .before .before .before .before .loop .inv .1) (c .before .before .before .before .before .before .loop .inv .2) in (
+    let d = c .before .before .before in
+    let a = start d .args in
+    let l = here d .before .loop in
+    let x = pending d in (
       omega arith,
-      rw (add-one, suc-mul) (omega arith),
-      rw add-one (c .left-by .ensures ∙ ap (after (a .s)) (c .before .before .before .before .window-row .ensures ∙ row) ∙ before-suc (a .s) x (a .p) k),
+      rw (add-one, suc-mul) (omega (arith, l .inv .1, here d .before .before .hop-length .ensures)),
+      rw add-one (c .left-by .ensures ∙ ap (after (a .s)) (row d) ∙ before-suc (a .s) x (a .p) (l .k)),
       rw add-one
           (c .before .before .put-row .ensures
-          ∙ ap (λ (r : Row). sets (c .before .before .before .before .before .before .loop .table) ((a .frames + k) * 8) (numbers r)) (c .before .before .before .before .window-row .ensures ∙ row)
-          ∙ ap (λ (t : List ℤ). sets t ((a .frames + k) * 8) (numbers (rowAt (a .s) x (a .p) k))) (c .before .before .before .before .before .before .loop .inv .3)
-          ∙ write-more (a .s) x (a .p) (a .table .now) (a .frames) k (omega (arith, c .before .before .before .before .before .before .before .before .pre .3 (omega arith)))),
+          ∙ ap (λ (r : Row). sets (l .table) ((a .frames + l .k) * 8) (numbers r)) (row d)
+          ∙ ap (λ (t : List ℤ). sets t ((a .frames + l .k) * 8) (numbers (rowAt (a .s) x (a .p) (l .k)))) (l .inv .3)
+          ∙ write-more (a .s) x (a .p) (a .table .now) (a .frames) (l .k) (omega (arith, room d, here d .loop-test .taken))),
     )
 
-same-length : tie.Need-same-length Inv-loop μ-loop
-same-length c =
+same-length-2 : tie.Need-same-length-2 Inv-loop μ-loop
+same-length-2 c =
     let a = c .before .before .before .args in
     let x = take (a .count) (a .held .now) ++ a .samples .now in
     ap length (c .before .loop .inv .3) ∙ length-written (a .s) x (a .p) (a .table .now) (a .frames) (c .before .loop .k) (λ h. omega (arith, c .before .before .before .pre .3 (omega arith)))
 
-returns : tie.Need-returns Inv-loop μ-loop
-returns c =
+returns-2 : tie.Need-returns-2 Inv-loop μ-loop
+returns-2 c =
     let a = c .before .before .before .args in
     let x = take (a .count) (a .held .now) ++ a .samples .now in
     let e : c .before .loop .k ≡ a .new = omega arith in
@@ -112,6 +155,10 @@ put-rows-spec =
     hop-length-requires
     loop-holds
     window-row-requires
+    enum-known-answer
+    enum-told
+    same-length
+    returns
     add-put-row
     put-row-requires
     left-by-requires
@@ -119,5 +166,5 @@ put-rows-spec =
     add-k
     loop-less
     loop-again
-    same-length
-    returns)
+    same-length-2
+    returns-2)

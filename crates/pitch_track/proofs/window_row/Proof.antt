@@ -9,7 +9,9 @@ use lib.ListN.{length, take, drop}
 use mir.Syntax.{w32}
 use Rattle.zint.specs.Read.{r-elem}
 use Rattle.pitch_settings.specs.SettingsLaws.{accepted}
-use Rattle.silk_pitch_analysis.specs.Frame.{row-of}
+use Rattle.pitch_settings.specs.Settings.{frame-length}
+use Rattle.silk_pitch_analysis.specs.Frame.{row-answer}
+use Rattle.silk_pitch_analysis.specs.FrameLaws.{row-whole}
 use Rattle.pitch_track.proofs.Lists.{length-pending, length-part, padded-front, length-padded}
 use borrow.Author.Needs.{needs}
 use Rattle.pitch_track.proofs.window_row.Statement.{statement}
@@ -53,9 +55,7 @@ slice-aggregate-frame-row : tie.Need-slice-aggregate-frame-row
 slice-aggregate-frame-row c = let g = c .before .before .before in sym (ap length (front g) ∙ whole g)
 
 frame-row-requires : tie.Need-frame-row-requires
-frame-row-requires c κs =
-    let g = c .before .before .before in
-    (start g .pre .0, ap length (front g) ∙ whole g ∙ g .before .frame-length .ensures)
+frame-row-requires c κs = search needs
 
 returns : tie.Need-returns
 returns c =
@@ -65,7 +65,10 @@ returns c =
     let w = front g ∙ ap (λ (n : ℕ). take n (drop (a .from) (pending g))) (g .before .frame-length .ensures) in
     let l = r-elem w32 (a .p .lag) (d .before .struct-told .given .0 .1) .val in
     let k = r-elem w32 (a .p .correlation) (d .struct-told2 .given .1 .0 .1) .val in
-    c .frame-row .ensures ∙ (λ i. row-of (a .s) (w i) (l i) (k i))
+    let size = whole g ∙ g .before .frame-length .ensures in
+    c .frame-row .ensures
+    ∙ (λ i. row-answer (a .s) (w i) (l i) (k i))
+    ∙ row-whole (a .s) (take (frame-length (a .s)) (drop (a .from) (pending g))) (a .p .lag) (a .p .correlation) (start g .pre .0) (ap length (sym w) ∙ ap length (front g) ∙ size)
 
 pub window-row-spec : {M : Type 1} → statement M
 window-row-spec =

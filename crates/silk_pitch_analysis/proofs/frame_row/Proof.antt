@@ -1,30 +1,57 @@
 -- `silk_pitch_analysis::frame_row` meets its contract. Assumes nothing.
 use mathlib.Core.Path.{_≡_, sym, ap, ap₂, _∙_, subst}
-use lib.IntN.{ℤ}
+use Prim.Native.Nat.{ℕ}
+use borrow.Author.Needs.{needs}
+use borrow.Author.Tests.{ne-eqb}
+use lib.ListN.{length, take}
 use Rattle.zint.specs.Read.{r-var}
-use Rattle.silk_pitch_analysis.specs.Frame.{verdict-of, row-from, row-of}
-use Rattle.silk_pitch_analysis.specs.FrameLaws.{Carried}
-use Rattle.silk_pitch_analysis.specs.VerdictLaws.{verdict-carried}
+use Rattle.pitch_settings.specs.Settings.{frame-length}
+use Rattle.pitch_table.specs.declared.Row.{Row}
+use Rattle.silk_pitch_analysis.specs.declared.RowAnswer.the-variants.{Analysed, Refused}
+use Rattle.silk_pitch_analysis.specs.Frame.{verdict-of, row-from, row-of, frame-no, row-answer}
+use Rattle.silk_pitch_analysis.specs.FrameLaws.{Carried, Taken, taken, row-taken}
+use Rattle.silk_pitch_analysis.specs.VerdictLaws.{first-carried}
 use Rattle.silk_pitch_analysis.proofs.frame_row.Statement.{statement}
 use Rattle.silk_pitch_analysis.proofs.frame_row.Tie as tie
 
--- the verdict
-verdict : (c : tie.After-analyse) → c .analyse .result ≡ verdict-of (c .before .args .s) (c .before .args .x .now) (c .before .args .prev-lag) (c .before .args .prev-corr)
+-- the frame is taken
+fine : (c : tie.Else1) → Taken (c .before .before .args .s) (length (c .before .before .args .x .now)) 4
+fine c = taken _ _ _ (sym (c .before .frame-no .ensures) ∙ c .if1 .left)
+
+verdict : (c : tie.After-analyse)
+    → c .analyse .result
+    ≡ verdict-of (c .before .before .before .args .s) (take (frame-length (c .before .before .before .args .s)) (c .before .before .before .args .x .now)) (c .before .before .before .args .prev-lag) (c .before .before .before .args .prev-corr)
 verdict c =
-    let s = c .before in
-    c .analyse .ensures ∙ ap₂ (verdict-of (s .args .s) (s .args .x .now)) (r-var (s .fits .prev-lag) .val) (r-var (s .fits .prev-corr) .val)
+    let s = c .before .before .before in
+    c .analyse .ensures ∙ ap₂ (verdict-of (s .args .s) (take (frame-length (s .args .s)) (s .args .x .now))) (r-var (s .fits .prev-lag) .val) (r-var (s .fits .prev-corr) .val)
+
+frame-no-requires : tie.Need-frame-no-requires
+frame-no-requires c κs = search needs
+
+returns : tie.Need-returns
+unfolding row-answer
+returns c =
+    let s = c .before .before in
+    let e = c .before .frame-no .ensures in
+    rw (ne-eqb _ 0 (λ (z : frame-no (s .args .s) (length (s .args .x .now)) 4 ≡ 0). c .if1 .taken (e ∙ z))) (ap Refused e)
 
 analyse-requires : tie.Need-analyse-requires
-analyse-requires c κs = c .pre
+analyse-requires c κs = let t = fine c in (t .settings, t .samples)
 
 verdict-row-requires : tie.Need-verdict-row-requires
 verdict-row-requires c κs =
-    let s = c .before in
-    (s .pre .0, subst (Carried (s .args .s)) (sym (verdict c)) (verdict-carried (s .args .s) (s .args .x .now) (s .pre .0) (s .pre .1) (s .args .prev-lag) (s .args .prev-corr)))
+    let s = c .before .before .before in
+    let t = fine (c .before) in
+    (t .settings, subst (Carried (s .args .s)) (sym (verdict c)) (first-carried (s .args .s) (s .args .x .now) (t .settings) (t .samples) (s .args .prev-lag) (s .args .prev-corr)))
 
-returns : tie.Need-returns
+returns-2 : tie.Need-returns-2
 unfolding row-of
-returns c = c .verdict-row .ensures ∙ ap (row-from (c .before .before .args .s)) (verdict (c .before))
+returns-2 c =
+    let a = c .before in
+    let s = a .before .before .before in
+    let t = fine (a .before) in
+    ap Analysed (c .verdict-row .ensures ∙ ap (row-from (s .args .s)) (verdict a))
+    ∙ sym (row-taken (s .args .s) (s .args .x .now) (s .args .prev-lag) (s .args .prev-corr) (t .settings) (t .samples))
 
 pub frame-row-spec : {M : Type 1} → statement M
-frame-row-spec = tie.close (tie.spec analyse-requires verdict-row-requires returns)
+frame-row-spec = tie.close (tie.spec frame-no-requires returns analyse-requires verdict-row-requires returns-2)
