@@ -1,0 +1,109 @@
+-- `sheet_text::sheet_text` meets its contract. Assumes nothing.
+use mathlib.Core.Path.{sym, ap, _∙_}
+use native.Mathlib.Omega.{arith}
+use borrow.Author.Needs.{needs}
+use Rattle.pitch_text.specs.Text.{refused-text}
+use Rattle.pitch_text.specs.TextLaws.{put-front}
+use Rattle.sheet_text.specs.Program.{sheet-text}
+use Rattle.sheet_text.specs.ProgramLaws.{text-more, none-more, text-refused, Found, found, Refused, refused, settings-known, few-frames, text-report}
+use Rattle.sheet_text.proofs.sheet_text.Statement.{statement}
+use Rattle.sheet_text.proofs.sheet_text.Tie as tie
+
+-- a sheet was read, or none was
+sheet : (c : tie.After-said) → Found (c .before .before .before .before .before .before .before .before .args .input .now) (c .said .given .0 .0) (c .said .given .0 .1 .0) (c .before .before .before .read-sheet .last .1 .0)
+sheet c = let s = c .before .before .before .before .before .before .before .before in found (s .args .input .now) (s .args .table .now) (s .pre .1) (c .before .before .before .read-sheet .ensures) (c .said .given .1)
+
+none : (c : tie.After-said2) → Refused (c .before .before .before .before .before .before .before .before .args .input .now) (c .said2 .given .0 .0)
+none c = let s = c .before .before .before .before .before .before .before .before in refused (s .args .input .now) (s .args .table .now) (s .pre .1) (c .before .before .before .read-sheet .ensures) (c .said2 .given .1)
+
+put-refused-requires : tie.Need-put-refused-requires
+put-refused-requires c κs = search needs
+
+same-length : tie.Need-same-length
+same-length c = search needs
+
+returns : tie.Need-returns
+returns c =
+    let s = c .before .before .before .before .before .before .before in
+    let w = c .before .before .put-refused .ensures in
+    let m = c .before .before .before .before .if1 .taken in (
+      λ rest e. put-front (w .0) (omega (arith, w .1, s .pre .2)) ∙ text-more (s .args .input .now) rest (s .pre .0 m) (e ∙ m),
+      omega (arith, w .1),
+    )
+
+read-sheet-requires : tie.Need-read-sheet-requires
+read-sheet-requires c κs = search needs
+
+enum-known-said : tie.Need-enum-known-said
+enum-known-said c = search needs
+
+put-report-requires : tie.Need-put-report-requires
+put-report-requires c κs =
+    let d = c .before .before .before in
+    let s = d .before .before .before .before .before .before .before .before in
+    let f = sheet d in
+    (settings-known f, few-frames f, omega (arith, few-frames f, d .before .before .before .read-sheet .kept .1 .0, s .pre .1), s .pre .2)
+
+enum-known-said-2 : tie.Need-enum-known-said-2
+enum-known-said-2 c = search needs
+
+cast-put-refused : tie.Need-cast-put-refused
+cast-put-refused c = omega (arith, none (c .before .before) .nine)
+
+put-refused-requires-2 : tie.Need-put-refused-requires-2
+put-refused-requires-2 c κs = search needs
+
+same-length-2 : tie.Need-same-length-2
+same-length-2 c = search needs
+
+same-length-3 : tie.Need-same-length-3
+same-length-3 c = search needs
+
+returns-2 : tie.Need-returns-2
+returns-2 c =
+    let d = c .before .before .before .before .before .before in
+    let s = d .before .before .before .before .before .before .before .before in
+    let w = c .before .before .put-report .ensures in
+    let n = d .before .before .before .before .before .if1 .left in (
+      λ rest e. put-front (w .0) (omega (arith, w .1, s .pre .2)) ∙ text-report (sheet d) ∙ ap sheet-text (sym (none-more (s .args .input .now) rest (e ∙ n))),
+      w .1,
+    )
+
+same-length-4 : tie.Need-same-length-4
+same-length-4 c = search needs
+
+same-length-5 : tie.Need-same-length-5
+same-length-5 c = search needs
+
+returns-3 : tie.Need-returns-3
+returns-3 c =
+    let d = c .before .before .before .before .before in
+    let s = d .before .before .before .before .before .before .before .before in
+    let w = c .before .before .put-refused2 .ensures in
+    let n = d .before .before .before .before .before .if1 .left in (
+      λ rest e. put-front (w .0) (omega (arith, w .1, s .pre .2))
+          ∙ ap refused-text (none d .nine)
+          ∙ text-refused (s .args .input .now) (none d .bad)
+          ∙ ap sheet-text (sym (none-more (s .args .input .now) rest (e ∙ n))),
+      omega (arith, w .1),
+    )
+
+pub sheet-text-spec : {M : Type 1} → statement M
+sheet-text-spec =
+    tie.close
+    (tie.spec
+    put-refused-requires
+    same-length
+    returns
+    read-sheet-requires
+    enum-known-said
+    put-report-requires
+    enum-known-said-2
+    cast-put-refused
+    put-refused-requires-2
+    same-length-2
+    same-length-3
+    returns-2
+    same-length-4
+    same-length-5
+    returns-3)

@@ -1,0 +1,153 @@
+-- Laws of the program's text: a page that is longer than the longest sheet is none, and what a reading finds is what the text tells.
+-- Assumes nothing.
+use mathlib.Core.Path.{_≡_, refl, ap, _∙_}
+use mathlib.Core.Bool.{Bool, true, false}
+use mathlib.Core.List.{List, [], _∷_, _++_, append-nil}
+use Prim.Native.Nat.{ℕ, zero, suc, _+_, _*_, _≤_, _<_}
+use native.Mathlib.Omega.{arith}
+use borrow.Author.Tests.{ltb-true, ltb-false}
+use lib.Dec.{ltb}
+use lib.IntN.{ℤ, pos}
+use lib.ListN.{length, getD, drop, length-append}
+use lib.Seq.{getD-append-add}
+use Rattle.lists.specs.Fill.{length-table, getD-table}
+use Rattle.pitch_settings.specs.declared.Settings.{Settings}
+use Rattle.pitch_settings.specs.Settings.{settings-no}
+use Rattle.pitch_table.specs.declared.Row.{Row}
+use Rattle.pitch_table.specs.Row.{numbers, row-at}
+use Rattle.pitch_text.specs.Text.{refused-text}
+use Rattle.pitch_text.specs.TextLaws.{lines-same}
+use Rattle.sheet_sections.specs.Sheet.{sheet-length}
+use Rattle.sheet_page.specs.Page.{settings-in, frames-in, row-in, held, well-formed, page-no, rows-in, numbers-of}
+use Rattle.sheet_page.specs.PageLaws.{good, voiced-in-le}
+use Rattle.pitch_sheet.specs.declared.Got.{Got}
+use Rattle.pitch_sheet.specs.declared.Got.the-variants.{Read, Refused as NotRead}
+use Rattle.pitch_sheet.specs.Calls.{got, readOf, ReadOutcome}
+use Rattle.pitch_sheet.specs.CallsLaws.{sheet-page, read-malformed, read-done}
+use Rattle.pitch_sheet.specs.Holds.{no-row}
+use Rattle.sheet_text.specs.Program.{head-text, report, sheet-text}
+
+-- ---- a page that is longer than the longest sheet
+pub sheet-within : (p : List ℕ) → well-formed p ≡ true → length p ≤ 32804
+unfolding sheet-length
+sheet-within p h = let g = good p h in omega (arith, g .sizes .whole, g .head .few, voiced-in-le p)
+
+pub text-refused : (p : List ℕ) → well-formed p ≡ false → refused-text 9 ≡ sheet-text p
+unfolding sheet-text
+text-refused p e = rw e
+
+too-long : (p : List ℕ) → 32804 < length p → well-formed p ≡ false
+too-long p h = by (well-formed p) refl
+  where
+    by : (b : Bool) → well-formed p ≡ b → b ≡ false
+    by true e = absurd (omega (arith, sheet-within p e))
+    by false e = refl
+
+-- bytes follow those of the longest sheet
+pub text-more : (p rest : List ℕ) → 32804 ≤ length p → ltb 0 (length rest) ≡ true → refused-text 9 ≡ sheet-text (p ++ rest)
+text-more p rest h e = text-refused (p ++ rest) (too-long (p ++ rest) (omega (arith, length-append p rest, ltb-true 0 (length rest) e)))
+
+-- none follow
+pub none-more : (p rest : List ℕ) → ltb 0 (length rest) ≡ false → p ++ rest ≡ p
+none-more p [] e = append-nil p
+none-more p (x ∷ rest) e = absurd (omega (arith, ltb-false 0 (length (x ∷ rest)) e))
+
+-- ---- the rows of a table that begins with their numbers
+row-first : (r : Row) (t : List ℤ) → row-at (numbers r ++ t) 0 ≡ r
+unfolding row-at
+row-first r t = refl
+
+row-later : (r : Row) (t : List ℤ) (i : ℕ) → row-at (numbers r ++ t) (suc i) ≡ row-at t i
+unfolding row-at
+row-later r t i =
+    let at : (j k : ℕ) → j ≡ 8 + k → getD (numbers r ++ t) j (pos 0) ≡ getD t k (pos 0) =
+    λ j k e. ap (λ (m : ℕ). getD (numbers r ++ t) m (pos 0)) e ∙ getD-append-add (numbers r) t k (pos 0) in
+    let x0 = at (suc i * 8) (i * 8) (omega arith) in
+    let x1 = at (suc i * 8 + 1) (i * 8 + 1) (omega arith) in
+    let x2 = at (suc i * 8 + 2) (i * 8 + 2) (omega arith) in
+    let x3 = at (suc i * 8 + 3) (i * 8 + 3) (omega arith) in
+    let x4 = at (suc i * 8 + 4) (i * 8 + 4) (omega arith) in
+    let x5 = at (suc i * 8 + 5) (i * 8 + 5) (omega arith) in
+    let x6 = at (suc i * 8 + 6) (i * 8 + 6) (omega arith) in
+    let x7 = at (suc i * 8 + 7) (i * 8 + 7) (omega arith) in
+    λ u. record { verdict = x0 u; index = x1 u; contour = x2 u; correlation = x3 u; lag0 = x4 u; lag1 = x5 u; lag2 = x6 u; lag3 = x7 u }
+
+row-back : (rs : List Row) (t : List ℤ) (i : ℕ) → i < length rs → row-at (numbers-of rs ++ t) i ≡ getD rs i no-row
+unfolding numbers-of
+row-back [] t i h = absurd (omega arith)
+row-back (r ∷ rs) t zero h = row-first r _
+row-back (r ∷ rs) t (suc i) h = row-later r _ i ∙ row-back rs t i (omega arith)
+
+-- ---- what a reading finds, in a table that has room for every sheet
+
+-- the page is a sheet, and these are its settings, its frame count and its rows, in a table
+pub record Found (p : List ℕ) (s : Settings) (frames : ℕ) (after : List ℤ) : Type 0 where
+  pub sound : well-formed p ≡ true
+  pub settings : s ≡ settings-in p
+  pub count : frames ≡ frames-in p
+  pub rows : (i : ℕ) → i < frames → row-at after i ≡ held (row-in p i)
+
+-- the page is no sheet, and the number says so
+pub record Refused (p : List ℕ) (number : ℕ) : Type 0 where
+  pub bad : well-formed p ≡ false
+  pub nine : number ≡ 9
+
+module _ (p : List ℕ) (t : List ℤ) (room : 32768 ≤ length t) where
+  -- 7 is never said
+  sound-read : well-formed p ≡ true → readOf p t ≡ got (Read (settings-in p) (frames-in p)) (numbers-of (rows-in p) ++ drop (frames-in p * 8) t)
+  sound-read e = read-done p t (sheet-page p e) (omega (arith, good p e .head .few))
+
+  bad-read : well-formed p ≡ false → readOf p t ≡ got (NotRead 9) t
+  unfolding page-no
+  bad-read e =
+      let n : page-no p ≡ 9 = rw e in
+      let m : page-no p ≡ 0 → ⊥ = λ z. omega arith in
+      read-malformed p t m ∙ ap (λ (k : ℕ). got (NotRead k) t) n
+
+  row-read : (i : ℕ) → i < frames-in p → row-at (numbers-of (rows-in p) ++ drop (frames-in p * 8) t) i ≡ held (row-in p i)
+  unfolding rows-in
+  row-read i h =
+      let f : ℕ → Row = λ k. held (row-in p k) in
+      row-back (rows-in p) (drop (frames-in p * 8) t) i (omega (arith, length-table f (frames-in p))) ∙ getD-table f (frames-in p) i no-row h
+
+  module _ {r : Got} {after : List ℤ} (e : got r after ≡ readOf p t) where
+    pub found : {s : Settings} {frames : ℕ} → r ≡ Read s frames → Found p s frames after
+    found {s} {frames} g = by (well-formed p) refl
+      where
+        by : (b : Bool) → well-formed p ≡ b → Found p s frames after
+        by true h =
+            let o = e ∙ sound-read h in
+            let q = ap (λ (x : ReadOutcome). x .answer) o in
+            let k : frames ≡ frames-in p = cc in
+            record { sound = h; settings = cc; count = k; rows = λ i l. ap (λ (x : ReadOutcome). row-at (x .table) i) o ∙ row-read i (omega arith) }
+        by false h =
+            let q = ap (λ (x : ReadOutcome). x .answer) (e ∙ bad-read h) in
+            let z : _≡_ {A = ℕ} 0 1 = cc in
+            absurd (omega arith)
+
+    pub refused : {number : ℕ} → r ≡ NotRead number → Refused p number
+    refused {number} g = by (well-formed p) refl
+      where
+        by : (b : Bool) → well-formed p ≡ b → Refused p number
+        by true h =
+            let q = ap (λ (x : ReadOutcome). x .answer) (e ∙ sound-read h) in
+            let z : _≡_ {A = ℕ} 0 1 = cc in
+            absurd (omega arith)
+        by false h =
+            let q = ap (λ (x : ReadOutcome). x .answer) (e ∙ bad-read h) in
+            record { bad = h; nine = cc }
+
+-- ---- the text of what was read
+module _ {p : List ℕ} {s : Settings} {frames : ℕ} {after : List ℤ} (f : Found p s frames after) where
+  pub settings-known : settings-no s ≡ 0
+  settings-known = ap settings-no (f .settings) ∙ good p (f .sound) .head .settings
+
+  pub few-frames : frames ≤ 4096
+  few-frames = omega (arith, f .count, good p (f .sound) .head .few)
+
+  pub text-report : report s (row-at after) frames ≡ sheet-text p
+  unfolding sheet-text report
+  text-report =
+      rw (f .sound)
+      (ap (λ (l : List ℕ). head-text s frames ++ l) (lines-same (s .nb) (row-at after) (λ i. held (row-in p i)) frames (f .rows))
+      ∙ (λ u. report (f .settings u) (λ i. held (row-in p i)) (f .count u)))
