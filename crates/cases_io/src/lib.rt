@@ -8,7 +8,7 @@ ghost use Rattle.cases_io.specs.Little.{u16-at, i16-at, i32-at, agree};
 use libc::STDOUT_FILENO;
 use std::num::wrapping_add_u64;
 use zint::abs_u32;
-use zint::low16;
+use zint::as_i16;
 use zint::low32;
 
 // How many cases there are, and how many agree.
@@ -42,7 +42,7 @@ pub fn u16_at(bytes: &[u8], at: usize) -> u16
 pub fn i16_at(bytes: &[u8], at: usize) -> i16
     ensures { λ r. ⌜ r ≡ i16-at (now (bytes .entry)) at ⌝ }
 {
-    low16(u16_at(bytes, at) as i32) as i16
+    as_i16(u16_at(bytes, at) as i32)
 }
 
 pub fn i32_at(bytes: &[u8], at: usize) -> i32

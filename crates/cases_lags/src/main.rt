@@ -1,9 +1,7 @@
 // Rebuilds the lags of every pair there is and prints how many are those that the source assembles: at each rate and subframe count, every complexity, lag index and
 // contour in use. Standard input is the source's list in that order: rate, subframes, complexity (a byte each), index (2 bytes), contour (a byte), then a lag for each
 // subframe (2 bytes each), little-endian.
-ghost use mathlib.Core.Path.{_≡_};
 ghost use Prim.Native.Nat.{_<_, _≤_};
-ghost use lib.ListN.{length};
 use cases_io::Tally;
 use cases_io::byte_at;
 use cases_io::skip;
@@ -129,15 +127,8 @@ fn replay(bytes: &[u8]) {
         .print(b"end of the list:");
 }
 
-// Room for the list. The `ensures` gives only the length, so that nothing unfolds the zeros.
-fn room() -> [u8; 1048576]
-    ensures { λ r. ⌜ 1048576 ≡ length r ⌝ }
-{
-    [0; 1048576]
-}
-
 fn main() {
-    let mut bytes = room();
+    let mut bytes = cases_io::room();
     let n = io::read_full(0, &mut bytes);
     replay(&bytes[..n]);
 }

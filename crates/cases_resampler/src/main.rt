@@ -2,9 +2,7 @@
 // A case is its kind (0 down2, 1 private_ar2, 2 down2_3) and the number n of samples (4 bytes each), the states (4 bytes each: 2, 2, 6), for private_ar2 two coefficients (2 bytes
 // each), n samples (2 bytes each), then what the source leaves: the outputs (down2 n / 2 and down2_3 2 (n / 3) of 2 bytes each, private_ar2 n of 4 bytes each) and the states.
 // All are little-endian.
-ghost use mathlib.Core.Path.{_≡_};
 ghost use Prim.Native.Nat.{_<_};
-ghost use lib.ListN.{length};
 use cases_io::Tally;
 use cases_io::load_i16s;
 use cases_io::load_i32s;
@@ -108,15 +106,8 @@ fn replay(bytes: &[u8], kind: u16, name: &[u8]) {
     tally.print(name);
 }
 
-// Room for the list. The `ensures` gives only the length, so that nothing unfolds the zeros.
-fn room() -> [u8; 1048576]
-    ensures { λ r. ⌜ 1048576 ≡ length r ⌝ }
-{
-    [0; 1048576]
-}
-
 fn main() {
-    let mut bytes = room();
+    let mut bytes = cases_io::room();
     let n = io::read_full(0, &mut bytes);
     replay(&bytes[..n], 0, b"silk_resampler_down2");
     replay(&bytes[..n], 1, b"silk_resampler_private_ar2");

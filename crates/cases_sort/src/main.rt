@@ -71,15 +71,8 @@ fn replay(bytes: &[u8]) {
     tally.print(b"silk_insertion_sort_decreasing_int16");
 }
 
-// Room for the list. The `ensures` gives only the length, so that nothing unfolds the zeros.
-fn room() -> [u8; 1048576]
-    ensures { λ r. ⌜ 1048576 ≡ length r ⌝ }
-{
-    [0; 1048576]
-}
-
 fn main() {
-    let mut bytes = room();
+    let mut bytes = cases_io::room();
     let n = io::read_full(0, &mut bytes);
     replay(&bytes[..n]);
 }

@@ -1,15 +1,15 @@
 -- Laws of an input's bytes: what follows the bytes of a number or of the settings does not change them, how many samples there are, and where they are loaded; and how large the settings' number is.
 -- Assumes nothing.
-use mathlib.Core.Path.{_≡_, sym, ap, _∙_}
+use mathlib.Core.Path.{_≡_, ap, _∙_}
 use mathlib.Core.Bool.{Bool, true, false, cond}
-use mathlib.Core.List.{List, _++_, append-nil}
+use mathlib.Core.List.{List, _++_}
 use Prim.Native.Nat.{ℕ, _+_, _*_, _≤_}
 use native.Mathlib.Omega.{arith}
 use lib.Dec.{leb}
 use lib.IntN.{ℤ}
 use lib.ListN.{length, take, drop, length-drop, List·getD-append}
-use lib.Seq.{drop-append-le, take-append-le, drop-length, take-at, length-take-le}
-use Rattle.lists.specs.Fill.{table, filled, length-table}
+use lib.Seq.{drop-append-le, take-append-le, take-at, length-take-le}
+use Rattle.lists.specs.Fill.{filled, filled-all, length-table}
 use Rattle.sheet_bytes.specs.Bytes.{number-at, signed-at}
 use Rattle.pitch_settings.specs.declared.Settings.{Settings}
 use Rattle.pitch_settings.specs.Settings.{rate-known, subframes-known, settings-no}
@@ -34,9 +34,8 @@ length-samples b at n = length-table _ n
 
 -- a list that is filled to its end with samples
 pub samples-filled : (b : List ℕ) (at n : ℕ) (out : List ℤ) → length out ≡ n → filled (λ (k : ℕ). sample-at b (at + 2 * k)) n out ≡ samples-from b at n
-unfolding samples-from filled
-samples-filled b at n out e =
-    ap (λ (l : List ℤ). table (λ (k : ℕ). sample-at b (at + 2 * k)) n ++ l) (ap (λ (m : ℕ). drop m out) (sym e) ∙ drop-length out) ∙ append-nil (table (λ (k : ℕ). sample-at b (at + 2 * k)) n)
+unfolding samples-from
+samples-filled b at n out e = filled-all (λ (k : ℕ). sample-at b (at + 2 * k)) n out (omega arith)
 
 -- samples that are loaded into the front of x
 pub loaded : (b : List ℕ) (at n : ℕ) (x out : List ℤ) → n ≤ length x → out ≡ samples-from b at (length (take n x)) → take n (out ++ drop n x) ≡ samples-from b at n

@@ -6,7 +6,7 @@ ghost use Rattle.pitch_input.specs.Input.{settings-in, sample-at, sample
 use pitch_settings::Settings;
 use sheet_bytes::i32_at;
 use sheet_bytes::u16_at;
-use zint::low16;
+use zint::as_i16;
 
 // The settings in the first eleven bytes.
 pub fn settings_in(bytes: &[u8]) -> Settings
@@ -26,7 +26,7 @@ fn sample_at(bytes: &[u8], at: usize) -> i16
     requires { ⌜ at + 2 ≤ length (now bytes) ⌝ }
     ensures { λ r. ⌜ r ≡ sample-at (now (bytes .entry)) at ⌝ }
 {
-    low16(u16_at(bytes, at) as i32) as i16
+    as_i16(u16_at(bytes, at) as i32)
 }
 
 // Fills out with samples, from the byte `at` on.

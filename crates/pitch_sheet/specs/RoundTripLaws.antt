@@ -9,11 +9,11 @@ use borrow.Author.Tests.{eqb-true, eqb-false, leb-true, leb-false}
 use lib.Dec.{eqb, leb}
 use lib.IntN.{ℤ, pos}
 use lib.ListN.{length, getD, take, drop, length-append}
-use lib.Seq.{take-at, take-add, drop-cons, split-at, getD-append-add, length-take-le, ext-getD}
+use lib.Seq.{take-at, take-add, drop-cons, split-at, getD-append-add, length-take-le}
 use mir.Syntax.{w32}
 use mir.Val.{SFits}
 use Rattle.zint.specs.Equal.{eqZ}
-use Rattle.lists.specs.Fill.{table, length-table, getD-table}
+use Rattle.lists.specs.Fill.{table, length-table, getD-table, table-is as table-of}
 use Rattle.pitch_settings.specs.declared.Settings.{Settings}
 use Rattle.pitch_settings.specs.Settings.{settings-no}
 use Rattle.pitch_table.specs.declared.Row.{Row}
@@ -97,11 +97,7 @@ module _ (rs : List Row) (rest : List ℤ) where
 
   rows-back : rows-of (numbers-of rs ++ rest) (length rs) ≡ rs
   unfolding rows-of
-  rows-back =
-      let f = row-at (numbers-of rs ++ rest) in
-      let len : length (table f (length rs)) ≡ length rs = length-table f (length rs) in
-      ext-getD no-row (table f (length rs)) rs len
-      (λ i l. let k : i < length rs = omega (arith, len) in getD-table f (length rs) i no-row k ∙ row-back i k)
+  rows-back = table-of (row-at (numbers-of rs ++ rest)) (length rs) rs no-row refl row-back
 
 -- ---- a sheet reads back
 

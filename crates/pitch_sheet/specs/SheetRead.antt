@@ -12,10 +12,10 @@ use borrow.Author.Tests.{eqb-true, eqb-false}
 use lib.Dec.{eqb}
 use lib.IntN.{ℤ, pos, natAbs}
 use lib.ListN.{length, getD, take, drop, length-append}
-use lib.Seq.{take-suc, split-at, drop-append-add, getD-append-add, getD-append-seam, length-take-le, take-length, ext-getD}
+use lib.Seq.{take-suc, split-at, drop-append-add, getD-append-add, getD-append-seam, length-take-le, take-length}
 use mir.Syntax.{w32}
 use Rattle.zint.specs.Wrap.{wrap}
-use Rattle.lists.specs.Fill.{table, length-table, getD-table}
+use Rattle.lists.specs.Fill.{table-is}
 use Rattle.pitch_settings.specs.declared.Settings.{Settings}
 use Rattle.pitch_settings.specs.Settings.{settings-no}
 use Rattle.pitch_settings.specs.SettingsLaws.{accepted}
@@ -391,10 +391,4 @@ module _ (s : Settings) (rs : List Row) (h : Holds s rs) where
 
   pub sheet-rows : rows-in p ≡ rs
   unfolding rows-in held
-  sheet-rows =
-      let f : ℕ → Row = λ i. held (row-in p i) in
-      let len : length (table f (frames-in p)) ≡ length rs = length-table f (frames-in p) ∙ frames-are in
-      ext-getD no-row (table f (frames-in p)) rs len
-      (λ i l.
-      let k : i < length rs = omega (arith, len) in
-      getD-table f (frames-in p) i no-row (omega (arith, length-table f (frames-in p))) ∙ ap held (row-is i k))
+  sheet-rows = table-is (λ i. held (row-in p i)) (frames-in p) rs no-row frames-are (λ i l. ap held (row-is i (omega (arith, frames-are))))

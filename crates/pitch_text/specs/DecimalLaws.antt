@@ -1,16 +1,14 @@
--- Laws of decimal numbers: the last digit, how many digits there are, and text that is written in parts.
+-- Laws of decimal numbers: the last digit, and how many digits there are.
 -- Assumes nothing.
-use mathlib.Core.Path.{_≡_, ap, _∙_}
+use mathlib.Core.Path.{_≡_, ap}
 use mathlib.Core.Bool.{cond}
 use mathlib.Core.List.{List, [], _∷_, _++_}
 use Prim.Native.Nat.{ℕ, zero, suc, _+_, _/_, _%_, _^_, _≤_, _<_}
 use native.Mathlib.Decide.{decLt}
-use native.Mathlib.Nat.{add-zero}
 use native.Mathlib.Omega.{arith}
 use borrow.Author.Tests.{lt-ltb, le-ltb}
 use lib.Dec.{ltb}
-use lib.ListN.{length, set, length-append}
-use lib.Seq.{sets}
+use lib.ListN.{length, length-append}
 use mir.Syntax.{w32}
 use mir.Val.{Fits}
 use Rattle.pitch_text.specs.Decimal.{digits-to, digits}
@@ -39,14 +37,6 @@ length-one n h = rw (digits-one n h)
 
 pub length-more : (n : ℕ) → 10 ≤ n → length (digits n) ≡ length (digits (n / 10)) + 1
 length-more n h = rw (digits-more n h) (length-append (digits (n / 10)) ((48 + n % 10) ∷ []))
-
-module _ {A : Type 0} where
-  -- text that is written in two parts
-  pub sets-append : (l : List A) (i : ℕ) (a b : List A) → sets (sets l i a) (i + length a) b ≡ sets l i (a ++ b)
-  sets-append l i [] b = ap (λ (k : ℕ). sets l k b) (add-zero i)
-  sets-append l i (x ∷ a) b =
-      let e : i + length (x ∷ a) ≡ suc i + length a = omega arith in
-      ap (λ (k : ℕ). sets (sets (set l i x) (suc i) a) k b) e ∙ sets-append (set l i x) (suc i) a b
 
 -- a number below ten to the k has at most k digits
 pub digits-few : (k n : ℕ) → n < 10 ^ suc k → length (digits n) ≤ suc k

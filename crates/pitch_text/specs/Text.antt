@@ -1,19 +1,13 @@
 -- Lines of text as bytes: fields of numbers, a row's line, a refusal's (document 01, "Program"). Definitions only.
-use mathlib.Core.Path.{_≡_}
 use mathlib.Core.Bool.{cond}
 use mathlib.Core.List.{List, [], _∷_, _++_}
 use Prim.Native.Nat.{ℕ, zero, suc, _+_}
 use lib.IntN.{ℤ, pos}
-use lib.ListN.{length, take}
-use lib.Seq.{sets}
+use lib.ListN.{take}
 use Rattle.zint.specs.Equal.{eqZ}
+pub use Rattle.lists.specs.Put.{Put}
 use Rattle.pitch_table.specs.declared.Row.{Row}
 use Rattle.pitch_text.specs.Decimal.{digits, decimal}
-
--- the text is written over the buffer from `at` on, and `end` is the place after it
-pub record Put (buffer : List ℕ) (at : ℕ) (text : List ℕ) (end : ℕ) (after : List ℕ) : Type 0 where
-  pub ends : end ≡ at + length text
-  pub holds : after ≡ sets buffer at text
 
 -- each number after a space
 unfoldable pub fields : List ℤ → List ℕ

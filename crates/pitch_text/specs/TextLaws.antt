@@ -1,6 +1,6 @@
--- Laws of text: one part after another, one field more, and how long a number is.
+-- Laws of text: one part after another (the laws of `Put`, passed on), one field more, and how long a number is.
 -- Assumes nothing.
-use mathlib.Core.Path.{_≡_, refl, sym, ap, ap₂, _∙_, subst}
+use mathlib.Core.Path.{_≡_, refl, sym, ap, ap₂, _∙_}
 use mathlib.Core.List.{List, [], _∷_, _++_, append-assoc, append-nil}
 use Prim.Native.Nat.{ℕ, zero, suc, _+_, _≤_, _<_}
 use native.Mathlib.Numerals.{add-one}
@@ -9,41 +9,15 @@ use mathlib.Core.Bool.{true, false, false≢true}
 use borrow.Author.Tests.{ltb-true}
 use lib.IntN.{ℤ, pos, negsuc, natAbs}
 use lib.Signed.{ltZ}
-use lib.ListN.{length, getD, take, drop, set, length-append}
-use lib.Seq.{sets, sets-eq, take-suc, take-at}
+use lib.ListN.{length, getD, take}
+use lib.Seq.{take-suc}
 use mir.Syntax.{w32}
 use mir.Val.{SFits}
+pub use Rattle.lists.specs.PutLaws.{put-then, put-as, put-end, put-one as put-byte, put-next, put-none, put-front}
 use Rattle.pitch_text.specs.Decimal.{digits, decimal}
-use Rattle.pitch_text.specs.DecimalLaws.{digits-few, sets-append}
+use Rattle.pitch_text.specs.DecimalLaws.{digits-few}
 use Rattle.pitch_table.specs.declared.Row.{Row}
-use Rattle.pitch_text.specs.Text.{fields, values-of, line-text, lines-text, Put}
-
--- one text after another
-pub put-then : {b m a : List ℕ} {at mid end : ℕ} {s t : List ℕ} → Put b at s mid m → Put m mid t end a → Put b at (s ++ t) end a
-put-then {b} {m} {a} {at} {mid} {end} {s} {t} p q = record {
-  ends = omega (arith, p .ends, q .ends, length-append s t);
-  holds = q .holds ∙ ap₂ (λ (l : List ℕ) (k : ℕ). sets l k t) (p .holds) (p .ends) ∙ sets-append b at s t;
-}
-
--- the same text, by an equation
-pub put-as : {b a : List ℕ} {at end : ℕ} {s t : List ℕ} → Put b at s end a → s ≡ t → Put b at t end a
-put-as {b} {a} {at} {end} p e = subst (λ (x : List ℕ). Put b at x end a) e p
-
--- the same end, named another way
-pub put-end : {b a : List ℕ} {at end p : ℕ} {s : List ℕ} → Put b at s end a → end ≡ p → Put b at s p a
-put-end {b} {a} {at} {s = s} q e = subst (λ (k : ℕ). Put b at s k a) e q
-
--- one byte
-pub put-byte : (b : List ℕ) (at x : ℕ) → Put b at (x ∷ []) (at + 1) (set b at x)
-put-byte b at x = record { ends = refl; holds = refl }
-
--- one byte more, at a place that is named another way
-pub put-next : {b a : List ℕ} {at end : ℕ} {s : List ℕ} (p x : ℕ) → Put b at s end a → end ≡ p → Put b at (s ++ (x ∷ [])) (p + 1) (set a p x)
-put-next {b} {a} {at} {end} {s} p x q e = put-then q (subst (λ (k : ℕ). Put a k (x ∷ []) (p + 1) (set a p x)) (sym e) (put-byte a p x))
-
--- nothing
-pub put-none : (b : List ℕ) (at : ℕ) → Put b at [] at b
-put-none b at = record { ends = omega arith; holds = refl }
+use Rattle.pitch_text.specs.Text.{fields, values-of, line-text, lines-text}
 
 fields-append : (xs ys : List ℤ) → fields (xs ++ ys) ≡ fields xs ++ fields ys
 unfolding fields
@@ -77,12 +51,6 @@ pub lines-same : (nb : ℕ) (f g : ℕ → Row) (k : ℕ) → ((i : ℕ) → i <
 unfolding lines-text
 lines-same nb f g zero h = refl
 lines-same nb f g (suc k) h = ap₂ (λ (l : List ℕ) (r : Row). l ++ line-text k nb r) (lines-same nb f g k (λ i q. h i (omega arith))) (h k (omega arith))
-
--- text that is written from the start of a buffer stands in front of it
-pub put-front : {b a : List ℕ} {end : ℕ} {s : List ℕ} → Put b 0 s end a → end ≤ length b → take end a ≡ s
-put-front {b} {a} {end} {s} p h =
-    let e : length s ≡ end = omega (arith, p .ends) in
-    ap (take end) (p .holds ∙ sets-eq s b 0 (omega arith)) ∙ take-at s (drop (0 + length s) b) end e
 
 -- a number of 32 bits has at most 11 bytes
 pub decimal-few : (z : ℤ) → SFits w32 z → length (decimal z) ≤ 11

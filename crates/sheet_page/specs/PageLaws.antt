@@ -16,7 +16,7 @@ use mir.Syntax.{w32}
 use mir.Val.{ofZ}
 use Rattle.best.specs.BestLaws.{every-true, every-false}
 use Rattle.lists.specs.Fill.{table, length-table}
-use Rattle.silk_tables.specs.TestLaws.{and-left, and-right}
+use Rattle.zint.specs.BoolLaws.{and-left, and-right}
 use Rattle.pitch_settings.specs.Settings.{settings-no}
 use Rattle.pitch_table.specs.declared.Row.{Row}
 use Rattle.pitch_table.specs.Row.{numbers}
@@ -26,7 +26,7 @@ use Rattle.sheet_rows.specs.declared.RowRead.the-variants.{Held, Bad}
 use Rattle.sheet_rows.specs.Rows.{row-of}
 use Rattle.sheet_rows.specs.RowsLaws.{stands, stands-verdict}
 use Rattle.sheet_sections.specs.Sheet.{sheet-length}
-use Rattle.sheet_sections.specs.SheetLaws.{sets-append}
+use Rattle.lists.specs.PutLaws.{sets-append}
 use Rattle.sheet_page.specs.Page.{settings-in, frames-in, verdict-in, voiced-before, voiced-in, pairs-from, pair-place, correlations-from, correlation-place, row-in, readable, head-good, sizes-good, rows-good, well-formed, held, numbers-of}
 
 module _ (p : List ℕ) where

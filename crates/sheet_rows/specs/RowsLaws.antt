@@ -13,7 +13,7 @@ use Rattle.zint.specs.Shift.{nonneg-abs}
 use Rattle.zint.specs.Equal.{eqZ}
 use Rattle.zint.specs.EqualLaws.{eqZ-yes, eqZ-no, eqZ-true}
 use Rattle.silk_tables.specs.Rebuild.{rebuilt, carried}
-use Rattle.silk_tables.specs.TestLaws.{and-left, and-right}
+use Rattle.zint.specs.BoolLaws.{and-left, and-right}
 use Rattle.silk_tables.specs.ContourLaws.{greatest-le, contours-le-34}
 use Rattle.silk_tables.specs.TableLaws.{settings-of}
 use Rattle.silk_tables.specs.CarriedLaws.{Accepted, accepted-of, carried-means}

@@ -14,8 +14,10 @@ use Rattle.sheet_bytes.specs.Bytes.{low-bytes, signed}
 use Rattle.sheet_bytes.specs.BytesLaws.{length-bytes, length-signed}
 use Rattle.sheet_sections.specs.declared.Section.{Section}
 use Rattle.sheet_sections.specs.declared.Section.the-variants.{Verdicts, Pairs, Correlations}
-use Rattle.sheet_sections.specs.Sheet.{listed, entry, part, Put}
-use Rattle.sheet_sections.specs.SheetLaws.{put-none, put-more, width, entry-length}
+use Rattle.lists.specs.Put.{Put}
+use Rattle.lists.specs.PutLaws.{put-none, put-then}
+use Rattle.sheet_sections.specs.Sheet.{listed, entry, part}
+use Rattle.sheet_sections.specs.SheetLaws.{width, entry-length}
 
 -- which rows a section lists
 pub listed-verdict : (r : Row) → listed Verdicts r ≡ true
@@ -60,18 +62,18 @@ module _ (r : Row) (p : List ℕ) (at : ℕ) where
 
   pub put-verdict : {x : ℕ} → x ≡ natAbs (r .verdict) → Put p at (part Verdicts r) (at + 1) (set p at x)
   unfolding entry
-  put-verdict e = put-entry Verdicts (listed-verdict r) (record { end-is = refl; page-is = ap (set p at) e })
+  put-verdict e = put-entry Verdicts (listed-verdict r) (record { ends = refl; holds = ap (set p at) e })
 
   pub put-pair : {n x : ℕ} {q : List ℕ} → r .verdict ≡ pos 0 → q ≡ sets p at (low-bytes 2 n) → n ≡ natAbs (r .index) → x ≡ natAbs (r .contour) → Put p at (part Pairs r) (at + 3) (set q (at + 2) x)
   unfolding entry
   put-pair {n} {x} {q} v eq en ex =
       let a : Put p at (low-bytes 2 (natAbs (r .index))) (at + 2) q =
-      record { end-is = ap (λ (m : ℕ). at + m) (sym (length-bytes 2 (natAbs (r .index)))); page-is = eq ∙ ap (λ (m : ℕ). sets p at (low-bytes 2 m)) en } in
-      let b : Put q (at + 2) (natAbs (r .contour) ∷ []) (at + 3) (set q (at + 2) x) = record { end-is = omega arith; page-is = ap (set q (at + 2)) ex } in
-      put-entry Pairs (listed-pair r v) (put-more a b)
+      record { ends = ap (λ (m : ℕ). at + m) (sym (length-bytes 2 (natAbs (r .index)))); holds = eq ∙ ap (λ (m : ℕ). sets p at (low-bytes 2 m)) en } in
+      let b : Put q (at + 2) (natAbs (r .contour) ∷ []) (at + 3) (set q (at + 2) x) = record { ends = omega arith; holds = ap (set q (at + 2)) ex } in
+      put-entry Pairs (listed-pair r v) (put-then a b)
 
   pub put-correlation : {z : ℤ} {q : List ℕ} → r .verdict ≡ pos 0 → q ≡ sets p at (signed z) → z ≡ r .correlation → Put p at (part Correlations r) (at + 4) q
   unfolding entry
   put-correlation v eq ez =
       put-entry Correlations (listed-correlation r v)
-      (record { end-is = ap (λ (m : ℕ). at + m) (sym (length-signed (r .correlation))); page-is = eq ∙ ap (λ (y : ℤ). sets p at (signed y)) ez })
+      (record { ends = ap (λ (m : ℕ). at + m) (sym (length-signed (r .correlation))); holds = eq ∙ ap (λ (y : ℤ). sets p at (signed y)) ez })

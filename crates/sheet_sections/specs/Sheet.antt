@@ -1,11 +1,9 @@
 -- A sheet's bytes (document 01, "Sheet"): sections in fixed order, each after a 4-byte count, all little-endian. Definitions only; the laws are in `SheetLaws`.
-use mathlib.Core.Path.{_≡_}
 use mathlib.Core.Bool.{Bool, true, cond}
 use mathlib.Core.List.{List, [], _∷_, _++_}
 use Prim.Native.Nat.{ℕ, _+_, _*_}
 use lib.IntN.{ℤ, pos, natAbs}
 use lib.ListN.{length}
-use lib.Seq.{sets}
 use Rattle.zint.specs.Equal.{eqZ}
 use Rattle.lists.specs.Fill.{table}
 use Rattle.pitch_settings.specs.declared.Settings.{Settings}
@@ -59,8 +57,3 @@ rows-of t n = table (row-at t) n
 -- a row's part of a section: its entry, or nothing
 unfoldable pub part : Section → Row → List ℕ
 part k r = cond (listed k r) (entry k r) []
-
--- the page after `bytes` were written from `at` on, and the place after them
-pub record Put (page : List ℕ) (at : ℕ) (bytes : List ℕ) (end : ℕ) (after : List ℕ) : Type 0 where
-  pub end-is : end ≡ at + length bytes
-  pub page-is : after ≡ sets page at bytes

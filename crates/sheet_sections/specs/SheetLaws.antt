@@ -8,10 +8,11 @@ use native.Mathlib.Nat.{add-zero}
 use native.Mathlib.Numerals.{add-one}
 use native.Mathlib.Omega.{arith}
 use lib.IntN.{ℤ, pos, natAbs}
-use lib.ListN.{length, set, length-append}
-use lib.Seq.{sets, length-sets}
+use lib.ListN.{length, length-append}
+use lib.Seq.{sets}
 use Rattle.zint.specs.Equal.{eqZ}
 use Rattle.lists.specs.Fill.{table, length-table}
+use Rattle.lists.specs.Put.{Put}
 use Rattle.pitch_settings.specs.declared.Settings.{Settings}
 use Rattle.pitch_table.specs.declared.Row.{Row}
 use Rattle.pitch_table.specs.Row.{row-at}
@@ -19,33 +20,14 @@ use Rattle.sheet_bytes.specs.Bytes.{low-bytes, signed}
 use Rattle.sheet_bytes.specs.BytesLaws.{length-bytes, length-signed}
 use Rattle.sheet_sections.specs.declared.Section.{Section}
 use Rattle.sheet_sections.specs.declared.Section.the-variants.{Verdicts, Pairs, Correlations}
-use Rattle.sheet_sections.specs.Sheet.{listed, entry, entries, setting-entries, joined, section, sheet, sheet-length, rows-of, part, Put}
-
--- ---- one run of stores after another
-
-module _ {A : Type 0} where
-  pub sets-append : (l xs ys : List A) (at end : ℕ) → end ≡ at + length xs → sets (sets l at xs) end ys ≡ sets l at (xs ++ ys)
-  sets-append l [] ys at end e = ap (λ (n : ℕ). sets l n ys) (e ∙ add-zero at)
-  sets-append l (x ∷ xs) ys at end e = sets-append (set l at x) xs ys (suc at) end (omega arith)
-
-  pub joined-append : (xs ys : List (List A)) → joined (xs ++ ys) ≡ joined xs ++ joined ys
-  unfolding joined
-  joined-append [] ys = refl
-  joined-append (x ∷ xs) ys = ap (λ (l : List A). x ++ l) (joined-append xs ys) ∙ sym (append-assoc x (joined xs) (joined ys))
-
-pub put-none : (p : List ℕ) (at : ℕ) → Put p at [] at p
-put-none p at = record { end-is = omega arith; page-is = refl }
-
-pub put-more : {p q r : List ℕ} {at mid end : ℕ} {xs ys : List ℕ} → Put p at xs mid q → Put q mid ys end r → Put p at (xs ++ ys) end r
-put-more {p} {q} {r} {at} {mid} {end} {xs} {ys} a b = record {
-  end-is = omega (arith, a .end-is, b .end-is, length-append xs ys);
-  page-is = b .page-is ∙ ap (λ (l : List ℕ). sets l mid ys) (a .page-is) ∙ sets-append p xs ys at mid (a .end-is);
-}
-
-pub put-length : {p q : List ℕ} {at end : ℕ} {xs : List ℕ} → Put p at xs end q → length q ≡ length p
-put-length {p} {q} {at} {end} {xs} a = ap length (a .page-is) ∙ length-sets p at xs
+use Rattle.sheet_sections.specs.Sheet.{listed, entry, entries, setting-entries, joined, section, sheet, sheet-length, rows-of, part}
 
 -- ---- sections, row by row
+
+joined-append : {A : Type 0} (xs ys : List (List A)) → joined (xs ++ ys) ≡ joined xs ++ joined ys
+unfolding joined
+joined-append [] ys = refl
+joined-append {A} (x ∷ xs) ys = ap (λ (l : List A). x ++ l) (joined-append xs ys) ∙ sym (append-assoc x (joined xs) (joined ys))
 
 pub entries-append : (k : Section) (xs ys : List Row) → entries k (xs ++ ys) ≡ entries k xs ++ entries k ys
 unfolding entries
@@ -181,14 +163,14 @@ module _ (k : Section) (t : List ℤ) (n : ℕ) where
 
 pub put-word : {p q : List ℕ} {at n m : ℕ} → q ≡ sets p at (low-bytes 4 n) → n ≡ m → Put p at (low-bytes 4 m) (at + 4) q
 put-word {p} {q} {at} {n} {m} e f = record {
-  end-is = ap (λ (k : ℕ). at + k) (sym (length-bytes 4 m));
-  page-is = e ∙ ap (λ (k : ℕ). sets p at (low-bytes 4 k)) f;
+  ends = ap (λ (k : ℕ). at + k) (sym (length-bytes 4 m));
+  holds = e ∙ ap (λ (k : ℕ). sets p at (low-bytes 4 k)) f;
 }
 
 pub put-signed : {p q : List ℕ} {at : ℕ} {x z : ℤ} → q ≡ sets p at (signed x) → x ≡ z → Put p at (signed z) (at + 4) q
 put-signed {p} {q} {at} {x} {z} e f = record {
-  end-is = ap (λ (k : ℕ). at + k) (sym (length-signed z));
-  page-is = e ∙ ap (λ (y : ℤ). sets p at (signed y)) f;
+  ends = ap (λ (k : ℕ). at + k) (sym (length-signed z));
+  holds = e ∙ ap (λ (y : ℤ). sets p at (signed y)) f;
 }
 
 pub settings-put : (s : Settings) {p q : List ℕ} {end : ℕ}

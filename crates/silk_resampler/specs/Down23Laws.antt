@@ -20,10 +20,10 @@ use Rattle.zint.specs.Wrap.{wrap}
 use Rattle.zint.specs.WrapLaws.{wrap-fits, wrap-id, wrap-add-r}
 use Rattle.silk_macros.specs.Macros.{smulwb, smlawb, rshift-round}
 use Rattle.silk_macros.specs.MacroLaws.{smulwb-fits}
-use Rattle.lists.specs.Fill.{table, filled, length-table, length-filled, getD-filled, table-ext, filled-ext}
+use Rattle.lists.specs.Fill.{table, filled, filled-all, take-filled, length-table, length-filled, getD-filled, table-ext, filled-ext}
 use Rattle.lists.specs.Signal.{sample}
 use Rattle.silk_resampler.specs.Down23.{Filter, source-filter, States, ar2-out, feedback, first-next, ar2-states, filtered, states-of, with-states, weighted, rounded, even-out, odd-out, decimated, joined, buffer, down2-3}
-use Rattle.silk_resampler.specs.Down2Laws.{filled-all, take-filled, table-fits}
+use Rattle.silk_resampler.specs.Down2Laws.{table-fits}
 
 -- ---- the source's steps
 
@@ -204,7 +204,7 @@ module _ (F : Filter) (xs out : List ℤ) (m : ℕ) (e : m ≡ length xs) where
   unfolding down2-3
   down2-3-whole l =
       let f = decimated F (buffer F (replicate 6 (pos 0)) (sample xs)) in
-      filled-all f (2 * (m / 3)) out l ∙ ap (λ (k : ℕ). table f (2 * (k / 3))) e
+      filled-all f (2 * (m / 3)) out (omega arith) ∙ ap (λ (k : ℕ). table f (2 * (k / 3))) e
 
   pub down2-3-front : take (2 * (m / 3)) (filled (decimated F (buffer F (replicate 6 (pos 0)) (sample xs))) (2 * (m / 3)) out) ≡ down2-3 F xs
   unfolding down2-3

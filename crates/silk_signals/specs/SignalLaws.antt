@@ -9,13 +9,14 @@ use native.Mathlib.Omega.{arith}
 use borrow.Author.Tests.{eq-eqb, ne-eqb}
 use lib.Dec.{eqb}
 use lib.IntN.{ℤ, pos, _+ℤ_}
-use lib.ListN.{length, getD, take, drop, set, List·getD-append}
-use lib.Seq.{take-at, drop-at, set-getD, ext-getD}
+use lib.ListN.{length, getD, drop, set, List·getD-append}
+use lib.Seq.{drop-at, set-getD}
 use mir.Syntax.{w16}
 use Rattle.zint.specs.Clamp.{sat}
-use Rattle.lists.specs.Fill.{table, filled, length-table, getD-table, table-ext}
+use Rattle.lists.specs.Fill.{table, filled, length-table, table-ext}
 use Rattle.lists.specs.Down.{filledFrom, from-below, from-next}
-use Rattle.lists.specs.Push.{headed}
+use Rattle.lists.specs.Push.{headed, filled-headed}
+pub use Rattle.lists.specs.Push.{take-headed}
 use Rattle.lists.specs.Signal.{sample}
 use Rattle.silk_resampler.specs.Down2.{down2}
 use Rattle.silk_resampler.specs.Down2Laws.{down2-length}
@@ -24,22 +25,6 @@ use Rattle.silk_resampler.specs.Down23Laws.{down2-3-length}
 use Rattle.silk_signals.specs.Signals.{eight, two-tap, four}
 
 -- ---- buffers
-
--- a buffer that a rule fills holds the rule's table in its first places
-pub filled-headed : (f : ℕ → ℤ) (n : ℕ) (l : List ℤ) → filled f n l ≡ headed (table f n) l
-unfolding filled headed
-filled-headed f n l = ap (λ (m : ℕ). table f n ++ drop m l) (sym (length-table f n))
-
--- the first places, as a callee is lent them
-pub take-headed : (xs l : List ℤ) (n : ℕ) → length xs ≡ n → take n (headed xs l) ≡ xs
-unfolding headed
-take-headed xs l n e = take-at xs (drop (length xs) l) n e
-
-pub table-sample : (xs : List ℤ) → table (sample xs) (length xs) ≡ xs
-unfolding sample
-table-sample xs =
-    ext-getD (pos 0) (table (sample xs) (length xs)) xs (length-table (sample xs) (length xs))
-    (λ i h. getD-table (sample xs) (length xs) i (pos 0) (omega (arith, length-table (sample xs) (length xs))))
 
 -- all places, counted down
 from-all : (f : ℕ → ℤ) (n : ℕ) (l : List ℤ) → filledFrom f 0 n l ≡ filled f n l

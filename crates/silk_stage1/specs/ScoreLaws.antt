@@ -2,14 +2,14 @@
 -- Assumes nothing.
 use mathlib.Core.Path.{_≡_, refl, sym, ap, ap₂, _∙_}
 use mathlib.Core.Bool.{Bool, true, false, cond, true≢false}
-use mathlib.Core.List.{List, _++_, append-nil}
+use mathlib.Core.List.{List}
 use mathlib.Core.Logic.{_⊎_, ⊎-elim}
 use Prim.Native.Nat.{ℕ, suc, _+_, _-_, _*_, _/_, _≤_, _<_}
 use native.Mathlib.Omega.{arith}
 use lib.IntN.{ℤ, pos, negsuc, natAbs, _+ℤ_, _-ℤ_, _*ℤ_}
 use lib.Dec.{lit≤, eqb}
 use native.Mathlib.Decide.{decLt}
-use lib.ListN.{length, getD, drop, replicate, drop-of-length-le}
+use lib.ListN.{length, getD, drop, replicate}
 use lib.Seq.{drop-drop}
 use mir.Syntax.{w16, w32}
 use Rattle.zint.specs.Wrap.{wrap, modZ}
@@ -18,16 +18,16 @@ use Rattle.zint.specs.Diff.{up, dn, v, n, _⊕_, _⊖_, _⊗_, ring, sfits-by}
 use Rattle.zint.specs.Bound.{abs-ud, abs-prod, fits-abs}
 use mir.Val.{SFits}
 use Rattle.lists.specs.Signal.{sample}
-use Rattle.lists.specs.Fill.{table, filled, table-ext, filled-ext, getD-table, getD-filled}
+use Rattle.lists.specs.Fill.{table, filled, filled-all, table-ext, filled-ext, getD-table, getD-filled}
 use Rattle.best.specs.Best.{some}
 use Rattle.best.specs.BestLaws.{some-true, some-false, some-ext}
 use Rattle.silk_sigproc.specs.Dot.{dot}
 use Rattle.silk_sigproc.specs.DotLaws.{dot-slide}
 use Rattle.silk_macros.specs.Macros.{smulbb}
-use Rattle.silk_macros.specs.Divide.{quotient}
+use Rattle.silk_macros.specs.Divide.{quotient, by-zero, low16-of}
 use Rattle.silk_macros.specs.declared.Quotient.{Quotient}
 use Rattle.silk_macros.specs.declared.Quotient.the-variants.{Value, ZeroDivisor as ByZero}
-use Rattle.silk_stage1.specs.Stage1.{target1, cross1, norm1, quotient1, by-zero, zero-in, zero1, low-of, corr1, sum1, biased1, score1}
+use Rattle.silk_stage1.specs.Stage1.{target1, cross1, norm1, quotient1, zero-in, zero1, corr1, sum1, biased1, score1}
 
 -- ---- what the functions say to one another: a loop that stops at a zero divisor has filled its array only where it has met none
 
@@ -37,7 +37,7 @@ divided xs ns i = quotient (sample xs (64 - i)) (sample ns i) (pos 14)
 
 pub record Divided (xs ns c₀ c : List ℤ) (zero : Bool) : Type 0 where
   pub told : zero ≡ some 65 (λ i. by-zero (divided xs ns i))
-  pub found : zero ≡ false → c ≡ filled (λ i. low-of (divided xs ns i)) 65 c₀
+  pub found : zero ≡ false → c ≡ filled (λ i. low16-of (divided xs ns i)) 65 c₀
 
 pub record HalfFrame (f : List ℤ) (h : ℕ) (c₀ c : List ℤ) (zero : Bool) : Type 0 where
   pub told : zero ≡ zero-in f h
@@ -46,12 +46,6 @@ pub record HalfFrame (f : List ℤ) (h : ℕ) (c₀ c : List ℤ) (zero : Bool) 
 pub record Scored (f : List ℤ) (nb : ℕ) (c₀ c : List ℤ) (zero : Bool) : Type 0 where
   pub told : zero ≡ zero1 f nb
   pub found : zero ≡ false → c ≡ filled (λ i. score1 f nb (8 + i)) 65 c₀
-
--- ---- an array that is filled whole
-
-pub filled-all : {A : Type 0} (g : ℕ → A) (k : ℕ) (l : List A) → length l ≤ k → filled g k l ≡ table g k
-unfolding filled
-filled-all {A} g k l h = ap (λ (t : List A). table g k ++ t) (drop-of-length-le l h) ∙ append-nil (table g k)
 
 -- ---- the correlations and the divisors along the lags
 
@@ -116,11 +110,11 @@ squares-differ {x} {y} f g =
 -- ---- quotients
 
 -- a quotient that has a value
-pub value-low : {q : Quotient} {z : ℤ} → q ≡ Value z → (by-zero q ≡ false) × (low-of q ≡ wrap w16 z)
-value-low e = (ap by-zero e, ap low-of e)
+pub value-low : {q : Quotient} {z : ℤ} → q ≡ Value z → (by-zero q ≡ false) × (low16-of q ≡ wrap w16 z)
+value-low e = (ap by-zero e, ap low16-of e)
 
 -- no divisor is zero, and the array is filled
-pub divided-none : (xs ns c₀ c : List ℤ) → ((i : ℕ) → i < 65 → by-zero (divided xs ns i) ≡ false) → c ≡ filled (λ i. low-of (divided xs ns i)) 65 c₀ → Divided xs ns c₀ c false
+pub divided-none : (xs ns c₀ c : List ℤ) → ((i : ℕ) → i < 65 → by-zero (divided xs ns i) ≡ false) → c ≡ filled (λ i. low16-of (divided xs ns i)) 65 c₀ → Divided xs ns c₀ c false
 divided-none xs ns c₀ c h e = record { told = sym (some-false 65 _ h); found = λ z. e }
 
 -- a divisor is zero
@@ -143,7 +137,7 @@ module _ (f : List ℤ) (h : ℕ) where
   half-frame-of xs ns c₀ c zero ex en d =
       record {
         told = d .told ∙ some-ext 65 _ _ (λ i l. ap by-zero (divided-is xs ns ex en i l));
-        found = λ z. d .found z ∙ filled-ext 65 c₀ (λ i l. ap low-of (divided-is xs ns ex en i l));
+        found = λ z. d .found z ∙ filled-ext 65 c₀ (λ i l. ap low16-of (divided-is xs ns ex en i l));
       }
 
 -- ---- the scores

@@ -4,7 +4,7 @@ ghost use mathlib.Core.Logic.{_⊎_};
 ghost use Prim.Native.Nat.{ℕ, _+_, _-_, _*_, _<_, _≤_};
 ghost use lib.IntN.{_+ℤ_, _-ℤ_, _*ℤ_};
 ghost use lib.ListN.{length, getD, drop, replicate};
-ghost use mir.Syntax.{w16, w32};
+ghost use mir.Syntax.{w32};
 ghost use Rattle.zint.specs.Wrap.{wrap};
 ghost use Rattle.lists.specs.Signal.{sample};
 ghost use Rattle.lists.specs.Fill.{table, filled};
@@ -21,7 +21,7 @@ use silk_sigproc::silk_inner_prod_aligned;
 use silk_sigproc::silk_pitch_xcorr;
 use silk_sigproc::square;
 use silk_sort::silk_insertion_sort_decreasing_int16;
-use zint::low16;
+use zint::as_i16;
 use zint::wrapping_add_i32;
 
 const SF_LENGTH_4KHZ: usize = 20;
@@ -46,13 +46,6 @@ pub struct Stage1 {
     pub screen: Screen,
     pub lags: [usize; 8],
     pub count: usize,
-}
-
-// x as i16.
-fn as_i16(x: i32) -> i16
-    ensures { λ r. ⌜ r ≡ wrap w16 x ⌝ }
-{
-    low16(x) as i16
 }
 
 // Where half-frame h starts.

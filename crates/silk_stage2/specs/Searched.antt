@@ -3,7 +3,7 @@
 use mathlib.Core.Path.{_≡_, refl, sym, ap, ap₂, _∙_, subst, subst₂}
 use mathlib.Core.Bool.{Bool, true, false, _&&_, cond}
 use mathlib.Core.List.{List, []}
-use mathlib.Core.Logic.{_⊎_, ⊎-elim}
+use mathlib.Core.Logic.{_⊎_}
 use Prim.Native.Nat.{ℕ, _+_, _-_, _<_, _≤_}
 use native.Mathlib.Omega.{arith}
 use lib.Dec.{eqb}
@@ -31,10 +31,6 @@ use Rattle.silk_stage2.specs.Stage2.{winner, won, picked, zero2, stage2}
 -- the correlation of subframe k at the lag d, in an array of rows of the lags 14 to 145
 abbrev pub at2 : List (List ℤ) → ℕ → ℕ → ℤ
 at2 c k d = getD (getD c k []) (d - 14) (pos 0)
-
--- the two subframe counts as bounds
-pub two-to-four : {nb : ℕ} → (nb ≡ 2) ⊎ (nb ≡ 4) → (2 ≤ nb) × (nb ≤ 4)
-two-to-four s = ⊎-elim (λ e. (omega arith, omega arith)) (λ e. (omega arith, omega arith)) s
 
 -- what the search is handed, and one lag of it
 pub record Handed (c : List (List ℤ)) (kept : List ℕ) (nb : ℕ) : Type 0 where

@@ -17,7 +17,7 @@ use Rattle.zint.specs.Order.{lt-yes}
 use Rattle.zint.specs.Tests.{lt-true}
 use Rattle.silk_tables.specs.Tables.{contours2}
 use Rattle.silk_tables.specs.Stage2Laws.{contours2-bounds}
-use Rattle.silk_tables.specs.TestLaws.{and-left, and-right}
+use Rattle.zint.specs.BoolLaws.{and-left, and-right}
 use Rattle.best.specs.Best as Best
 use Rattle.best.specs.Best.{some, Place, none, at, BestOf}
 use Rattle.best.specs.BestLaws.{some-find, some-none, best-outcome, Outcome}

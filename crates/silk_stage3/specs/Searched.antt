@@ -19,7 +19,8 @@ use mir.Syntax.{w32}
 use mir.Val.{SFits}
 use Rattle.zint.specs.Tests.{lt-true, lt-false}
 use Rattle.zint.specs.Equal.{eqZ}
-use Rattle.silk_macros.specs.Divide.{div32-varq, quotient}
+use Rattle.silk_macros.specs.Divide.{div32-varq, quotient, by-zero}
+use Rattle.silk_macros.specs.DivideLaws.{div32-varq-fits}
 use Rattle.best.specs.Best.{Place, none, at, best}
 use Rattle.best.specs.BestLaws.{search-start, search-skip, search-better, search-kept, search-best, some-true, some-false, some-ext, best-ext}
 use Rattle.best.specs.BestLaws as laws
@@ -30,9 +31,9 @@ use Rattle.silk_stage3.specs.declared.Found.the-variants.{Pair, ZeroDivi
 use Rattle.silk_stage3.specs.declared.Best.{Best}
 use Rattle.silk_stage3.specs.declared.Search.{Search}
 use Rattle.silk_stage3.specs.declared.Search.the-variants.{Going, Stopped}
-use Rattle.silk_stage3.specs.Pick.{first-tried, last-tried, tried, quotient-of, bias-of, biased, score-of, by-zero, zero-reached, candidate, score, lag-no, contour-no, pairs, pair-at, pick}
+use Rattle.silk_stage3.specs.Pick.{first-tried, last-tried, tried, quotient-of, bias-of, biased, score-of, zero-reached, candidate, score, lag-no, contour-no, pairs, pair-at, pick}
 use Rattle.silk_stage3.specs.Stage3.{sat-sum, energy-target, cross, energy, stage3, Handed}
-use Rattle.silk_stage3.specs.PickLaws.{score-above, quotient-fits, sat-sum-ext, few-lags}
+use Rattle.silk_stage3.specs.PickLaws.{score-above, sat-sum-ext, few-lags}
 
 -- a place of a nested array, and the sum over the subframes at a lag and a contour
 abbrev pub at3 : List (List (List ℤ)) → ℕ → ℕ → ℕ → ℤ
@@ -205,7 +206,7 @@ module _ (cross energy : ℕ → ℕ → ℤ) (fs nb cx lag : ℕ) where
     -- the quotient's value fits
     value-fits : (t : Bool) (q : ℤ) → cond t ByZero (Value (div32-varq (cross d j) (energy d j) (pos 14))) ≡ Value q → SFits w32 q
     value-fits true q e = let z : _≡_ {A = ℕ} 0 1 = cc in absurd (omega arith)
-    value-fits false q e = let z : div32-varq (cross d j) (energy d j) (pos 14) ≡ q = cc in subst (SFits w32) z (quotient-fits (cross d j) (energy d j) (pos 14))
+    value-fits false q e = let z : div32-varq (cross d j) (energy d j) (pos 14) ≡ q = cc in subst (SFits w32) z (div32-varq-fits (cross d j) (energy d j) (pos 14))
 
     by-quotient : (x : Quotient) → ltZ (pos 0) (cross d j) ≡ true → quotient-of (cross d j) (energy d j) ≡ x → After (n + 1) next
     unfolding quotient

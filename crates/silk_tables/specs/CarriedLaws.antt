@@ -1,7 +1,7 @@
 -- What accepted settings and a carried pair say, the two tests from such facts, and the answer by its tests.
 -- Assumes nothing.
-use mathlib.Core.Path.{_≡_, refl, ap, ap₂, subst}
-use mathlib.Core.Bool.{Bool, true, false, _&&_, _||_, cond}
+use mathlib.Core.Path.{_≡_, ap, ap₂, subst}
+use mathlib.Core.Bool.{Bool, true, _&&_, _||_, cond}
 use mathlib.Core.Logic.{_⊎_, inl, inr, ⊎-elim}
 use Prim.Native.Nat.{ℕ, _≤_, _<_}
 use native.Mathlib.Omega.{arith}
@@ -15,7 +15,7 @@ use Rattle.zint.specs.Shift.{nonneg-abs}
 use Rattle.zint.specs.Diff.{le-of, lt-of, of-lt, zarith}
 use Rattle.silk_tables.specs.Tables.{Settings, contours, greatest-index}
 use Rattle.silk_tables.specs.Rebuild.{rebuilt, Coded, accepted, carried, rebuiltOf}
-use Rattle.silk_tables.specs.TestLaws.{and-left, and-right}
+use Rattle.zint.specs.BoolLaws.{and-left, and-right, or-cases}
 use Rattle.silk_tables.specs.TableLaws.{settings-of}
 use Rattle.silk_tables.specs.ContourLaws.{greatest-le, contours-le}
 use Rattle.silk_tables.specs.declared.rebuild.Rebuilt.{Rebuilt}
@@ -29,10 +29,6 @@ pub record Accepted (fs nb cx : ℕ) : Type 0 where
   pub rate-le : fs ≤ 16
   pub settings : Settings nb cx
 
-or-either : (a b : Bool) → (a || b) ≡ true → (a ≡ true) ⊎ (b ≡ true)
-or-either true b e = inl refl
-or-either false b e = inr e
-
 abbrev rate-test : ℕ → Bool
 rate-test fs = eqb fs 8 || eqb fs 12 || eqb fs 16
 
@@ -45,15 +41,15 @@ RateIn fs = (fs ≡ 8) ⊎ ((fs ≡ 12) ⊎ (fs ≡ 16))
 rate-of : (fs : ℕ) → rate-test fs ≡ true → RateIn fs
 rate-of fs e =
     ⊎-elim
-    (λ f. ⊎-elim (λ g. inl (eqb-true fs 8 g)) (λ g. inr (inl (eqb-true fs 12 g))) (or-either (eqb fs 8) (eqb fs 12) f))
+    (λ f. ⊎-elim (λ g. inl (eqb-true fs 8 g)) (λ g. inr (inl (eqb-true fs 12 g))) (or-cases (eqb fs 8) (eqb fs 12) f))
     (λ f. inr (inr (eqb-true fs 16 f)))
-    (or-either (eqb fs 8 || eqb fs 12) (eqb fs 16) e)
+    (or-cases (eqb fs 8 || eqb fs 12) (eqb fs 16) e)
 
 rate-in : (fs : ℕ) → RateIn fs → rate-test fs ≡ true
 rate-in fs r = ⊎-elim (λ (e : fs ≡ 8). ap rate-test e) (λ s. ⊎-elim (λ (e : fs ≡ 12). ap rate-test e) (λ (e : fs ≡ 16). ap rate-test e) s) r
 
 count-of : (nb : ℕ) → count-test nb ≡ true → (nb ≡ 2) ⊎ (nb ≡ 4)
-count-of nb e = ⊎-elim (λ g. inl (eqb-true nb 2 g)) (λ g. inr (eqb-true nb 4 g)) (or-either (eqb nb 2) (eqb nb 4) e)
+count-of nb e = ⊎-elim (λ g. inl (eqb-true nb 2 g)) (λ g. inr (eqb-true nb 4 g)) (or-cases (eqb nb 2) (eqb nb 4) e)
 
 count-in : (nb : ℕ) → (nb ≡ 2) ⊎ (nb ≡ 4) → count-test nb ≡ true
 count-in nb s = ⊎-elim (λ (e : nb ≡ 2). ap count-test e) (λ (e : nb ≡ 4). ap count-test e) s

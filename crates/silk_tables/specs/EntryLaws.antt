@@ -13,7 +13,7 @@ use mir.Val.{SFits, hbits, toZ, ofZ}
 use Rattle.zint.specs.Bound.{widen}
 use Rattle.zint.specs.Read.{r-elem, r-cast, f-cast}
 use Rattle.zint.specs.Tests.{le-true}
-use Rattle.silk_tables.specs.TestLaws.{and-left, and-right}
+use Rattle.zint.specs.BoolLaws.{and-left, and-right}
 
 unfoldable pub all-of : {A : Type 0} → (A → Bool) → List A → Bool
 all-of test [] = true

@@ -5,12 +5,11 @@ use Prim.Native.Nat.{ℕ, _+_, _-_, _*_}
 use lib.IntN.{ℤ, pos, _+ℤ_}
 use lib.ListN.{drop}
 use lib.Signed.{ltZ}
-use mir.Syntax.{w16, w32}
+use mir.Syntax.{w32}
 use Rattle.zint.specs.Equal.{eqZ}
 use Rattle.zint.specs.Wrap.{wrap}
 use Rattle.silk_macros.specs.Divide.{quotient}
-use Rattle.silk_macros.specs.declared.Quotient.{Quotient}
-use Rattle.silk_macros.specs.declared.Quotient.the-variants.{Value, ZeroDivisor}
+pub use Rattle.silk_macros.specs.Divide.{low16-of}
 use Rattle.silk_sigproc.specs.Dot.{dot}
 use Rattle.stage2_correlations.specs.Marks.{measured}
 
@@ -25,11 +24,6 @@ cross e k d = wrap w32 (dot (drop (target k) e) (drop (target k - d) e) 40)
 -- the divisor: the energies of the two, and 1
 unfoldable pub divisor : List ℤ → ℕ → ℕ → ℤ
 divisor e k d = wrap w32 (dot (drop (target k) e) (drop (target k) e) 40 +ℤ pos 1 +ℤ dot (drop (target k - d) e) (drop (target k - d) e) 40)
-
--- the low 16 bits of a quotient
-abbrev pub low16-of : Quotient → ℤ
-low16-of (Value q) = wrap w16 q
-low16-of ZeroDivisor = pos 0
 
 -- the quotient at Q14 of two numbers, low 16 bits, where the first is positive; else 0. The divisor is reached only there
 unfoldable pub ratio : ℤ → ℤ → ℤ

@@ -11,7 +11,8 @@ use lib.ListN.{length, getD, length-append}
 use Rattle.best.specs.Best.{some}
 use Rattle.best.specs.BestLaws.{some-find}
 use Rattle.stage2_correlations.specs.Marks.{mark-near, near, listed, measured, Kept}
-use Rattle.stage2_correlations.specs.MarkLaws.{and-left, and-right, mark-yes, near-yes, inside}
+use Rattle.zint.specs.BoolLaws.{and-left, and-right}
+use Rattle.stage2_correlations.specs.MarkLaws.{mark-yes, near-yes, inside}
 
 -- ---- a marked lag in words: it lies within the ends, and from v - below to v + above for the double v of a kept lag
 

@@ -1,7 +1,7 @@
 -- Laws of the marked lags: the tests by their bounds, document 01's three examples, and that at most 24 lags are listed.
 -- Assumes nothing.
-use mathlib.Core.Path.{_≡_, refl, ap, ap₂, _∙_}
-use mathlib.Core.Bool.{Bool, true, false, _&&_, and-false, false≢true}
+use mathlib.Core.Path.{_≡_, ap, ap₂, _∙_}
+use mathlib.Core.Bool.{Bool, true, false, _&&_, and-false}
 use mathlib.Core.List.{List}
 use Prim.Native.Nat.{ℕ, _+_, _*_, _≤_, _<_}
 use borrow.Author.Tests.{le-leb, lt-leb}
@@ -9,15 +9,6 @@ use lib.Dec.{leb}
 use lib.ListN.{length, getD}
 use Rattle.best.specs.BestLaws.{some-true, some-false}
 use Rattle.stage2_correlations.specs.Marks.{mark-near, near}
-
--- what a test of two parts says of each
-pub and-left : (a b : Bool) → (a && b) ≡ true → a ≡ true
-and-left true b e = refl
-and-left false b e = e
-
-pub and-right : (a b : Bool) → (a && b) ≡ true → b ≡ true
-and-right true b e = e
-and-right false b e = absurd (false≢true e)
 
 -- ---- one kept lag
 

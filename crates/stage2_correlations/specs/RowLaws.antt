@@ -2,14 +2,13 @@
 -- Assumes nothing.
 use mathlib.Core.Path.{_≡_, refl, sym, ap, ap₂, _∙_}
 use mathlib.Core.Bool.{Bool, true, false, _&&_, _||_, cond, or-true, or-false, true≢false}
-use mathlib.Core.List.{List, _++_, append-nil}
+use mathlib.Core.List.{List}
 use Prim.Native.Nat.{ℕ, _+_, _-_, _<_, _≤_}
 use native.Mathlib.Numerals.{add-one}
 use native.Mathlib.Omega.{arith}
 use native.Mathlib.Decide.{decLt}
 use lib.IntN.{ℤ, pos, natAbs, _+ℤ_, _-ℤ_, _*ℤ_, +ℤ-assoc}
-use lib.ListN.{length, getD, drop}
-use lib.Seq.{drop-length}
+use lib.ListN.{getD, drop}
 use lib.Signed.{ltZ}
 use mir.Syntax.{w16, w32}
 use Rattle.zint.specs.Equal.{eqZ}
@@ -17,10 +16,11 @@ use Rattle.zint.specs.Wrap.{wrap}
 use Rattle.zint.specs.WrapLaws.{wraps, wrap-fits}
 use Rattle.zint.specs.Bound.{fits-abs}
 use Rattle.lists.specs.Signal.{sample}
-use Rattle.lists.specs.Fill.{table, filled, getD-table, table-ext}
+use Rattle.lists.specs.Fill.{table, getD-table, table-ext}
 use Rattle.best.specs.Best.{some}
 use Rattle.best.specs.BestLaws.{some-ext, some-true, some-false, some-find, some-none}
-use Rattle.silk_macros.specs.Divide.{quotient, div32-varq}
+use Rattle.silk_macros.specs.Divide.{quotient, low16-of, by-zero as no-value}
+use Rattle.silk_macros.specs.DivideLaws.{by-zero-is}
 use Rattle.silk_macros.specs.declared.Quotient.{Quotient}
 use Rattle.silk_macros.specs.declared.Quotient.the-variants.{Value, ZeroDivisor}
 use Rattle.silk_sigproc.specs.Dot.{dot}
@@ -28,13 +28,8 @@ use Rattle.silk_sigproc.specs.DotLaws.{dot-slide}
 use Rattle.stage2_correlations.specs.declared.Ratio.{Ratio}
 use Rattle.stage2_correlations.specs.Marks.{near, measured}
 use Rattle.stage2_correlations.specs.MarkLaws.{too-low, too-high}
-use Rattle.stage2_correlations.specs.Correlations.{target, cross, divisor, low16-of, ratio, by-zero, correlation, zero-reached}
+use Rattle.stage2_correlations.specs.Correlations.{target, cross, divisor, ratio, by-zero, correlation, zero-reached}
 use Rattle.stage2_correlations.specs.Rows.{ratio-of, energy-from, at-lag, value-at, zero-at, row}
-
--- a list filled to its end
-pub filled-all : {A : Type 0} (f : ℕ → A) (n : ℕ) (l : List A) → length l ≡ n → filled f n l ≡ table f n
-unfolding filled
-filled-all f n l e = ap (λ t. table f n ++ t) (ap (λ (k : ℕ). drop k l) (sym e) ∙ drop-length l) ∙ append-nil (table f n)
 
 -- a ratio is its two parts
 pub ratio-by : {a b : Bool} {x y : ℤ} → a ≡ b → x ≡ y → _≡_ {A = Ratio} (record { zero = a; value = x }) (record { zero = b; value = y })
@@ -42,28 +37,20 @@ ratio-by p q = λ i. record { zero = p i; value = q i }
 
 -- ---- the quotient's two answers
 
-value-not : (t : Bool) (x q : ℤ) → cond t ZeroDivisor (Value x) ≡ Value q → t ≡ false
-value-not true x q e = let z : _≡_ {A = ℕ} 0 1 = cc in absurd (omega arith)
-value-not false x q e = refl
-
-zero-so : (t : Bool) (x : ℤ) → cond t ZeroDivisor (Value x) ≡ ZeroDivisor → t ≡ true
-zero-so true x e = refl
-zero-so false x e = let z : _≡_ {A = ℕ} 0 1 = cc in absurd (omega arith)
-
 module _ (x n : ℤ) where
   pub ratio-none : ltZ (pos 0) x ≡ false → record { zero = false; value = pos 0 } ≡ ratio-of x n
   unfolding ratio-of ratio by-zero
   ratio-none h = sym (ratio-by (ap (λ (t : Bool). t && eqZ n (pos 0)) h) (ap (λ (t : Bool). cond t (low16-of (quotient x n (pos 14))) (pos 0)) h))
 
   pub ratio-value : (q : ℤ) → ltZ (pos 0) x ≡ true → quotient x n (pos 14) ≡ Value q → record { zero = false; value = wrap w16 q } ≡ ratio-of x n
-  unfolding ratio-of ratio by-zero quotient
+  unfolding ratio-of ratio by-zero
   ratio-value q h e =
-      sym (ratio-by (ap₂ _&&_ h (value-not (eqZ n (pos 0)) (div32-varq x n (pos 14)) q e)) (ap₂ (λ (t : Bool) (a : Quotient). cond t (low16-of a) (pos 0)) h e))
+      sym (ratio-by (ap₂ _&&_ h (sym (by-zero-is x n (pos 14)) ∙ ap no-value e)) (ap₂ (λ (t : Bool) (a : Quotient). cond t (low16-of a) (pos 0)) h e))
 
   pub ratio-zero : ltZ (pos 0) x ≡ true → quotient x n (pos 14) ≡ ZeroDivisor → record { zero = true; value = pos 0 } ≡ ratio-of x n
-  unfolding ratio-of ratio by-zero quotient
+  unfolding ratio-of ratio by-zero
   ratio-zero h e =
-      sym (ratio-by (ap₂ _&&_ h (zero-so (eqZ n (pos 0)) (div32-varq x n (pos 14)) e)) (ap₂ (λ (t : Bool) (a : Quotient). cond t (low16-of a) (pos 0)) h e))
+      sym (ratio-by (ap₂ _&&_ h (sym (by-zero-is x n (pos 14)) ∙ ap no-value e)) (ap₂ (λ (t : Bool) (a : Quotient). cond t (low16-of a) (pos 0)) h e))
 
 -- ---- the divisor from the two energies, and the basis energy one sample earlier
 

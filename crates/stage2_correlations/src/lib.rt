@@ -13,7 +13,7 @@ use silk_macros::Quotient;
 use silk_macros::silk_div32_varq;
 use silk_sigproc::silk_inner_prod_aligned;
 use silk_sigproc::square;
-use zint::low16;
+use zint::as_i16;
 use zint::wrapping_add_i32;
 use zint::wrapping_sub_i32;
 
@@ -103,7 +103,7 @@ fn divide(cross_corr: i32, norm: i32) -> Ratio
         };
         Ratio {
             zero: false,
-            value: low16(q) as i16,
+            value: as_i16(q),
         }
     } else {
         Ratio {

@@ -3,21 +3,17 @@
 use mathlib.Core.Path.{_≡_, refl}
 use mathlib.Core.Bool.{Bool, true, false, cond}
 use mathlib.Core.List.{List}
-use Prim.Native.Nat.{ℕ, _≤_}
+use Prim.Native.Nat.{_≤_}
 use native.Mathlib.Omega.{arith}
 use lib.IntN.{ℤ, pos, natAbs}
 use lib.ListN.{length}
-use lib.Signed.{ltZ, quotZ}
-use mir.Syntax.{w16, w32}
+use lib.Signed.{quotZ}
+use mir.Syntax.{w32}
 use mir.Val.{SFits}
-use Rattle.zint.specs.Bound.{abs-prod, fits-abs, abs-fits}
-use Rattle.zint.specs.WrapLaws.{wrap-fits}
-use Rattle.silk_macros.specs.Divide.{quotient}
-use Rattle.silk_macros.specs.declared.Quotient.{Quotient}
-use Rattle.silk_macros.specs.declared.Quotient.the-variants.{Value, ZeroDivisor as ZeroQuotient}
+use Rattle.zint.specs.Bound.{abs-prod, abs-fits}
 use Rattle.silk_tables.specs.CarriedLaws.{carried-yes}
-use Rattle.stage2_correlations.specs.Marks.{measured}
-use Rattle.stage2_correlations.specs.Correlations.{cross, divisor, low16-of, ratio, correlation}
+use Rattle.stage2_correlations.specs.Correlations.{correlation}
+use Rattle.stage2_correlations.specs.RowLaws.{correlation-small}
 use Rattle.silk_stage2.specs.Scores.{contour-sum}
 use Rattle.silk_stage2.specs.ScoreLaws.{Small, quot-le, contour-small}
 use Rattle.pitch_settings.specs.declared.Settings.{Settings}
@@ -60,26 +56,6 @@ module _ (s : Settings) where
   holds zero-divisor = rw zero-is (holds-yes s (quiet-row (pos 2)) (row-zero-divisor s (pos 0) (pos 0) (pos 0) refl))
 
 -- ---- the correlation: 4 × (sum / nb) of correlations of 16 bits
-
-low-small : (q : Quotient) → natAbs (low16-of q) ≤ 32768
-low-small (Value z) = fits-abs (wrap-fits w16 z)
-low-small ZeroQuotient = omega arith
-
-ratio-small : (x n : ℤ) → natAbs (ratio x n) ≤ 32768
-unfolding ratio
-ratio-small x n = by (ltZ (pos 0) x)
-  where
-    by : (b : Bool) → natAbs (cond b (low16-of (quotient x n (pos 14))) (pos 0)) ≤ 32768
-    by true = low-small (quotient x n (pos 14))
-    by false = omega arith
-
-correlation-small : (x : List ℤ) (kept : List ℕ) (k d : ℕ) → natAbs (correlation x kept k d) ≤ 32768
-unfolding correlation
-correlation-small x kept k d = by (measured kept d)
-  where
-    by : (b : Bool) → natAbs (cond b (ratio (cross x k d) (divisor x k d)) (pos 0)) ≤ 32768
-    by true = ratio-small (cross x k d) (divisor x k d)
-    by false = omega arith
 
 module _ (s : Settings) (x : List ℤ) (prev corr : ℤ) (h : settings-no s ≡ 0) where
   voiced-small : {index contour r : ℤ} → VoicedWhen s x prev corr index contour r → natAbs r ≤ 131072

@@ -1,36 +1,27 @@
 -- `cases_io::i16_at` meets its contract. Assumes nothing.
-use mathlib.Core.Path.{ap, _∙_}
-use Prim.Native.Nat.{ℕ}
+use mathlib.Core.Path.{ap}
 use native.Mathlib.Omega.{arith}
 use lib.IntN.{pos}
 use mir.Syntax.{w16, w32}
-use mir.Val.{ofZ}
-use Rattle.zint.specs.Read.{Reads, r-nat, r-as, r-call1, r-cast, f-cast}
+use Rattle.zint.specs.Read.{r-nat, r-as, r-call1}
 use Rattle.zint.specs.Rules.{zneeds}
 use Rattle.zint.specs.Wrap.{wrap}
-use Rattle.zint.specs.WrapLaws.{wrap-fits}
 use Rattle.cases_io.specs.Little.{u16-at, i16-at}
 use Rattle.cases_io.proofs.i16_at.Statement.{statement}
 use Rattle.cases_io.proofs.i16_at.Tie as tie
 
-low : (c : tie.After-low16) → Reads w32 (ofZ w32 (c .low16 .result)) (wrap w16 (pos (u16-at (c .before .before .before .args .bytes .now) (c .before .before .before .args .at))))
-low c = r-call1 w32 (wrap w16) (c .low16 .ok) (r-as (r-nat w32 (c .before .u16-at .result) (omega arith)) (ap pos (c .before .u16-at .ensures))) (c .low16 .ensures)
-
 u16-at-requires : tie.Need-u16-at-requires
 u16-at-requires c κs = search zneeds
 
-cast-low16 : tie.Need-cast-low16
-cast-low16 c = search zneeds
+cast-as-i16 : tie.Need-cast-as-i16
+cast-as-i16 c = search zneeds
 
-low16-requires : tie.Need-low16-requires
-low16-requires c κs = search zneeds
-
-cast-result : tie.Need-cast-result
-cast-result c = f-cast (low c) (wrap-fits w16 _)
+as-i16-requires : tie.Need-as-i16-requires
+as-i16-requires c κs = search zneeds
 
 returns : tie.Need-returns
 unfolding i16-at
-returns c = r-cast (low c) (wrap-fits w16 _) .val
+returns c = r-call1 w16 (wrap w16) (c .as-i16 .ok) (r-as (r-nat w32 (c .before .u16-at .result) (omega arith)) (ap pos (c .before .u16-at .ensures))) (c .as-i16 .ensures) .val
 
 pub i16-at-spec : {M : Type 1} → statement M
-i16-at-spec = tie.close (tie.spec u16-at-requires cast-low16 low16-requires cast-result returns)
+i16-at-spec = tie.close (tie.spec u16-at-requires cast-as-i16 as-i16-requires returns)

@@ -38,8 +38,8 @@ returns-2 c =
     let q = c .before .before .before .before .before in
     let bytes = sheet (a .s) (rows-of (a .table .now) (a .frames)) in
     let put = c .before .before .put-sheet .ensures in
-    let n : c .before .before .put-sheet .result ≡ length bytes = omega (arith, put .end-is) in
-    let p = put .page-is ∙ front (a .page .now) bytes (told q .fits) in
+    let n : c .before .before .put-sheet .result ≡ length bytes = omega (arith, put .ends) in
+    let p = put .holds ∙ front (a .page .now) bytes (told q .fits) in
     (λ i. wrote (Written (n i)) (p i)) ∙ sym (write-done (a .s) (a .frames) (a .table .now) (a .page .now) (sym (q .before .write-no .ensures) ∙ q .if1 .left))
 
 pub write-sheet-spec : {M : Type 1} → statement M

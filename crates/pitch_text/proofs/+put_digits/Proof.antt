@@ -1,13 +1,14 @@
 -- `pitch_text::+put_digits` meets its contract. Assumes nothing.
 use borrow.Author.Needs.{needs}
-use mathlib.Core.Path.{_≡_, sym, ap, ap₂, _∙_}
+use mathlib.Core.Path.{_≡_, refl, sym, ap, ap₂, _∙_}
 use mathlib.Core.List.{List, [], _∷_}
 use Prim.Native.Nat.{ℕ, _+_, _/_, _%_, _≤_, _<_}
 use native.Mathlib.Omega.{arith}
 use lib.ListN.{length, set, length-set}
 use lib.Seq.{sets}
 use Rattle.pitch_text.specs.Decimal.{digits}
-use Rattle.pitch_text.specs.DecimalLaws.{digits-one, digits-more, length-one, length-more, sets-append}
+use Rattle.lists.specs.PutLaws.{sets-append}
+use Rattle.pitch_text.specs.DecimalLaws.{digits-one, digits-more, length-one, length-more}
 use borrow.Fn.Kinds.{In}
 use borrow.Fn.PlainCycle.{Measures, is, falls, and}
 use Rattle.pitch_text.proofs.put_digits.Reads as put-digits
@@ -126,7 +127,7 @@ put-digits-returns-2 t c =
       ends = omega (arith, place c, length-more _ (big c));
       holds =
           ap₂ (λ (l : List ℕ) (k : ℕ). set l k (48 + a .n % 10)) (c .before .before .put-digits .ensures .holds) (place c)
-          ∙ sets-append (a .out .now) (a .at) (digits (a .n / 10)) ((48 + a .n % 10) ∷ [])
+          ∙ sets-append (a .out .now) (digits (a .n / 10)) ((48 + a .n % 10) ∷ []) (a .at) (a .at + length (digits (a .n / 10))) refl
           ∙ ap (sets (a .out .now) (a .at)) (sym (digits-more (a .n) (big c)));
     }
 

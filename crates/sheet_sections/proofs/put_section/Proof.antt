@@ -5,8 +5,10 @@ use Rattle.lists.specs.Fill.{table}
 use Rattle.pitch_table.specs.Row.{row-at}
 use Rattle.sheet_bytes.specs.Bytes.{low-bytes}
 use Rattle.sheet_bytes.specs.BytesLaws.{length-bytes}
-use Rattle.sheet_sections.specs.Sheet.{joined, section, part, entries, rows-of, Put}
-use Rattle.sheet_sections.specs.SheetLaws.{put-none, put-more, put-length, put-word, parts-next, parts-room, length-rows, entries-le, parts}
+use Rattle.lists.specs.Put.{Put}
+use Rattle.lists.specs.PutLaws.{put-none, put-then, put-length}
+use Rattle.sheet_sections.specs.Sheet.{joined, section, part, entries, rows-of}
+use Rattle.sheet_sections.specs.SheetLaws.{put-word, parts-next, parts-room, length-rows, entries-le, parts}
 use Prim.Native.Nat.{_+_, _-_, _≤_}
 use native.Mathlib.Omega.{arith}
 use borrow.Author.Needs.{needs}
@@ -51,7 +53,7 @@ put-part-requires c κs =
     let a = s .args in
     let e = c .before .get-row .ensures in (
       rw e (s .pre .2 (q .loop .i) (omega arith)),
-      rw e (omega (arith, q .loop .inv .1 .end-is, put-length (q .loop .inv .1), q .before .before .before .put-u32 .kept .0, parts-room (a .which) (a .table .now) (q .loop .i) (a .frames) (omega arith), room s)),
+      rw e (omega (arith, q .loop .inv .1 .ends, put-length (q .loop .inv .1), q .before .before .before .put-u32 .kept .0, parts-room (a .which) (a .table .now) (q .loop .i) (a .frames) (omega arith), room s)),
     )
 
 add-i : tie.Need-add-i Inv-loop μ-loop
@@ -68,7 +70,7 @@ loop-again c =
     let i = q .loop .i in
     let row : part (a .which) (c .before .before .before .before .get-row .result) ≡ part (a .which) (row-at t i) = ap (part (a .which)) (c .before .before .before .before .get-row .ensures) in
     let one : Put (q .loop .page) (q .loop .end) (part (a .which) (row-at t i)) (c .before .before .put-part .result) (c .before .before .put-part .last .0) = rw row at (c .before .before .put-part .ensures) in
-    (omega arith, rw (parts-next (a .which) t i) (put-more (q .loop .inv .1) one))
+    (omega arith, rw (parts-next (a .which) t i) (put-then (q .loop .inv .1) one))
 
 same-length : tie.Need-same-length Inv-loop μ-loop
 same-length c = put-length (c .before .loop .inv .1) ∙ c .before .before .before .before .put-u32 .kept .0
@@ -80,7 +82,7 @@ returns c =
     let a = q .before .before .before .before .before .before .args in
     let e : q .loop .i ≡ a .frames = omega arith in
     let all : Put (q .before .before .before .put-u32 .last .0) (a .at + 4) (parts (a .which) (rows-of (a .table .now) (a .frames))) (q .loop .end) (q .loop .page) = rw e at (q .loop .inv .1) in
-    put-more (put-word (q .before .before .before .put-u32 .ensures) (q .before .before .before .before .before .before .pre .3)) all
+    put-then (put-word (q .before .before .before .put-u32 .ensures) (q .before .before .before .before .before .before .pre .3)) all
 
 pub put-section-spec : {M : Type 1} → statement M
 put-section-spec =

@@ -6,7 +6,8 @@ use mir.Syntax.{w32}
 use mir.Val.{Fits}
 use Rattle.zint.specs.Read.{r-elem}
 use Rattle.pitch_settings.specs.SettingsLaws.{accepted}
-use Rattle.sheet_sections.specs.SheetLaws.{put-word, put-signed, put-more, settings-put}
+use Rattle.lists.specs.PutLaws.{put-then}
+use Rattle.sheet_sections.specs.SheetLaws.{put-word, put-signed, settings-put}
 use borrow.Author.Needs.{needs}
 use Rattle.sheet_sections.proofs.put_settings.Statement.{statement}
 use Rattle.sheet_sections.proofs.put_settings.Tie as tie
@@ -48,7 +49,7 @@ returns : tie.Need-returns
 returns c =
     let s = c .before .before .before .before .before .before .before .before .before .before .before .before .before .before .before .before .before .before .before .before .before .before .before .before .before .before .before .before .before .before .args .s in
     settings-put s
-    (put-more (put-more (put-more (put-more (put-more (put-word (c .before .before .before .before .before .before .before .before .before .before .before .before .before .before .before .before .before .before .before .before .before .before .before .before .before .before .before .put-u32 .ensures) refl)
+    (put-then (put-then (put-then (put-then (put-then (put-word (c .before .before .before .before .before .before .before .before .before .before .before .before .before .before .before .before .before .before .before .before .before .before .before .before .before .before .before .put-u32 .ensures) refl)
     (put-word (c .before .before .before .before .before .before .before .before .before .before .before .before .before .before .before .before .before .before .before .before .before .before .put-u322 .ensures) refl))
     (put-word (c .before .before .before .before .before .before .before .before .before .before .before .before .before .before .before .before .before .put-u323 .ensures) refl))
     (put-word (c .before .before .before .before .before .before .before .before .before .before .before .before .put-u324 .ensures) refl))

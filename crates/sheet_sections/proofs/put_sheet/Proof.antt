@@ -7,7 +7,8 @@ use Rattle.pitch_table.specs.Row.{row-at}
 use Rattle.sheet_rows.specs.RowsLaws.{Small, holds-small}
 use Rattle.sheet_sections.specs.declared.Section.the-variants.{Verdicts, Pairs, Correlations}
 use Rattle.sheet_sections.specs.Sheet.{entries, section, sheet, rows-of}
-use Rattle.sheet_sections.specs.SheetLaws.{put-more, length-rows, settings-length, verdicts-count, correlations-count}
+use Rattle.lists.specs.PutLaws.{put-then}
+use Rattle.sheet_sections.specs.SheetLaws.{length-rows, settings-length, verdicts-count, correlations-count}
 use Rattle.sheet_sections.proofs.put_sheet.Statement.{statement}
 use Rattle.sheet_sections.proofs.put_sheet.Tie as tie
 
@@ -32,7 +33,7 @@ put-section-requires c κs =
       s .pre .2,
       rows-small s,
       sym (verdicts-count rs ∙ length-rows (s .args .table .now) (s .args .frames)),
-      omega (arith, room s, c .before .before .before .put-settings .ensures .end-is, settings-length (s .args .s), c .before .before .before .put-settings .kept .0),
+      omega (arith, room s, c .before .before .before .put-settings .ensures .ends, settings-length (s .args .s), c .before .before .before .put-settings .kept .0),
     )
 
 put-section-requires-2 : tie.Need-put-section-requires-2
@@ -40,7 +41,7 @@ put-section-requires-2 c κs =
     let s = c .before .before .before .before .before .before .before .before .before .before in
     let one = c .before .before .before .before .before .before .before .put-settings in
     let two = c .before .before .before .put-section in
-    (s .pre .1, s .pre .2, rows-small s, s .pre .4, omega (arith, room s, one .ensures .end-is, settings-length (s .args .s), two .ensures .end-is, one .kept .0, two .kept .0))
+    (s .pre .1, s .pre .2, rows-small s, s .pre .4, omega (arith, room s, one .ensures .ends, settings-length (s .args .s), two .ensures .ends, one .kept .0, two .kept .0))
 
 put-section-requires-3 : tie.Need-put-section-requires-3
 put-section-requires-3 c κs =
@@ -53,7 +54,7 @@ put-section-requires-3 c κs =
       s .pre .2,
       rows-small s,
       s .pre .4 ∙ sym (correlations-count rs),
-      omega (arith, room s, one .ensures .end-is, settings-length (s .args .s), two .ensures .end-is, three .ensures .end-is, one .kept .0, two .kept .0, three .kept .0),
+      omega (arith, room s, one .ensures .ends, settings-length (s .args .s), two .ensures .ends, three .ensures .ends, one .kept .0, two .kept .0, three .kept .0),
     )
 
 same-length : tie.Need-same-length
@@ -61,7 +62,7 @@ same-length c = omega (arith, c .before .before .put-section3 .kept .0, c .befor
 
 returns : tie.Need-returns
 unfolding sheet
-returns c = put-more (put-more (put-more (c .before .before .before .before .before .before .before .before .before .before .before .before .before .before .put-settings .ensures) (c .before .before .before .before .before .before .before .before .before .before .put-section .ensures)) (c .before .before .before .before .before .before .put-section2 .ensures)) (c .before .before .put-section3 .ensures)
+returns c = put-then (put-then (put-then (c .before .before .before .before .before .before .before .before .before .before .before .before .before .before .put-settings .ensures) (c .before .before .before .before .before .before .before .before .before .before .put-section .ensures)) (c .before .before .before .before .before .before .put-section2 .ensures)) (c .before .before .put-section3 .ensures)
 
 pub put-sheet-spec : {M : Type 1} → statement M
 put-sheet-spec =

@@ -8,10 +8,9 @@ use lib.ListN.{length, getD, length-set}
 use mir.Syntax.{w16}
 use Rattle.zint.specs.Read.{r-elem}
 use Rattle.zint.specs.Rules.{zneeds}
-use Rattle.lists.specs.Fill.{filled, filled-none, filled-turn}
-use Rattle.lists.specs.Push.{headed}
+use Rattle.lists.specs.Fill.{filled, filled-none, filled-turn, table-is}
+use Rattle.lists.specs.Push.{headed, filled-headed}
 use Rattle.lists.specs.Signal.{sample}
-use Rattle.silk_signals.specs.SignalLaws.{filled-headed, table-sample}
 use Rattle.silk_signals.proofs.copy_into.Statement.{statement}
 use Rattle.silk_signals.proofs.copy_into.Tie as tie
 
@@ -60,6 +59,7 @@ same-length : tie.Need-same-length Inv-loop μ-loop
 same-length c = search zneeds
 
 returns : tie.Need-returns Inv-loop μ-loop
+unfolding sample
 returns c =
     let s = c .before in
     let a = s .before .args in
@@ -68,7 +68,7 @@ returns c =
     s .loop .inv .1 .1
     ∙ ap (λ (k : ℕ). filled (sample x) k (a .out .now)) e
     ∙ filled-headed (sample x) (length x) (a .out .now)
-    ∙ ap (λ (t : List ℤ). headed t (a .out .now)) (table-sample x)
+    ∙ ap (λ (t : List ℤ). headed t (a .out .now)) (table-is (sample x) (length x) x (pos 0) refl (λ k h. refl))
 
 pub copy-into-spec : {M : Type 1} → statement M
 copy-into-spec =

@@ -6,7 +6,7 @@ use lib.IntN.{pos}
 use lib.ListN.{length}
 use Rattle.lists.specs.Signal.{sample}
 use Rattle.silk_resampler.specs.Down2.{halved, down2}
-use Rattle.silk_signals.specs.SignalLaws.{filled-headed}
+use Rattle.lists.specs.Push.{filled-headed}
 use Rattle.silk_signals.proofs.halve_into.Statement.{statement}
 use Rattle.silk_signals.proofs.halve_into.Tie as tie
 

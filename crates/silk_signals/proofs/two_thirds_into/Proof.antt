@@ -4,7 +4,7 @@ use Prim.Native.Nat.{_*_, _/_}
 use borrow.Author.Needs.{needs}
 use lib.ListN.{length}
 use Rattle.silk_resampler.specs.Down23.{down2-3}
-use Rattle.silk_signals.specs.SignalLaws.{filled-headed}
+use Rattle.lists.specs.Push.{filled-headed}
 use Rattle.silk_signals.proofs.two_thirds_into.Statement.{statement}
 use Rattle.silk_signals.proofs.two_thirds_into.Tie as tie
 

@@ -17,7 +17,8 @@ use Rattle.stage2_correlations.specs.Rows.{row}
 use Rattle.stage2_correlations.specs.RowLaws.{row-kept, zero-lags}
 use Rattle.silk_stage2.specs.ScoreLaws.{Small}
 use Rattle.silk_stage2.specs.Stage2.{picked}
-use Rattle.silk_stage2.specs.Searched.{at2, two-to-four, rows, rows-small, stage2-picked, stage2-zero}
+use Rattle.silk_tables.specs.TableLaws.{two-to-four}
+use Rattle.silk_stage2.specs.Searched.{at2, rows, rows-small, stage2-picked, stage2-zero}
 use Rattle.zint.specs.Rules.{zneeds}
 use Rattle.silk_stage2.proofs.silk_stage2.Statement.{statement}
 use Rattle.silk_stage2.proofs.silk_stage2.Tie as tie

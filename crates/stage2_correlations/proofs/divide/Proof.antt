@@ -3,9 +3,8 @@ use mathlib.Core.Path.{_≡_, sym, ap, ap₂, _∙_}
 use mathlib.Core.Bool.{true, false}
 use lib.IntN.{ℤ, pos}
 use lib.Signed.{ltZ}
-use Rattle.zint.specs.Read.{Reads, r-var, r-got, r-cast, f-cast, t-above}
+use Rattle.zint.specs.Read.{r-var, r-got, t-above}
 use Rattle.zint.specs.Wrap.{wrap}
-use Rattle.zint.specs.WrapLaws.{wrap-fits}
 use mir.Syntax.{w16, w32}
 use mir.Val.{toZ, ofZ}
 use Rattle.silk_macros.specs.Divide.{quotient}
@@ -41,19 +40,13 @@ value c = c .q .given .0 .0
 same : (c : tie.After-known-told) → toZ w32 (ofZ w32 (value (c .before))) ≡ value (c .before)
 same c = search zneeds
 
-low : (c : tie.After-low16) → Reads w32 (ofZ w32 (c .low16 .result)) (wrap w16 (value (c .before .before)))
-low c = r-got w32 (c .low16 .ok) (c .low16 .ensures ∙ ap (wrap w16) (same (c .before)))
-
-low16-requires : tie.Need-low16-requires
-low16-requires c κs = search zneeds
-
-cast-t8 : tie.Need-cast-t8
-cast-t8 c = f-cast (low c) (wrap-fits w16 (value (c .before .before)))
+as-i16-requires : tie.Need-as-i16-requires
+as-i16-requires c κs = search zneeds
 
 returns-2 : tie.Need-returns-2
 returns-2 c =
     let d = c .before .before in
-    ap (λ (x : ℤ). record { zero = false; value = x }) (r-cast (low c) (wrap-fits w16 (value d)) .val)
+    ap (λ (x : ℤ). record { zero = false; value = x }) (r-got w16 (c .as-i16 .ok) (c .as-i16 .ensures ∙ ap (wrap w16) (same (c .before))) .val)
     ∙ ratio-value _ _ (value d) (positive (d .before .before .before)) (sym (divided (d .before .before)) ∙ d .q .given .1)
 
 returns-3 : tie.Need-returns-3
@@ -67,7 +60,6 @@ divide-spec =
     enum-known-q
     enum-told
     returns
-    low16-requires
-    cast-t8
+    as-i16-requires
     returns-2
     returns-3)

@@ -1,12 +1,12 @@
 -- `stage2_correlations::measured_lags` meets its contract. Assumes nothing.
-use mathlib.Core.Path.{_≡_, refl, ap, _∙_}
+use mathlib.Core.Path.{_≡_, ap, _∙_}
 use mathlib.Core.Bool.{false}
 use Prim.Native.Nat.{ℕ, _+_, _-_, _≤_}
+use lib.Dec.{lit≤}
 use lib.ListN.{replicate}
 use native.Mathlib.Omega.{arith}
-use Rattle.lists.specs.Fill.{filled, filled-none, filled-turn}
+use Rattle.lists.specs.Fill.{filled, filled-none, filled-turn, filled-all}
 use Rattle.stage2_correlations.specs.Marks.{measured}
-use Rattle.stage2_correlations.specs.RowLaws.{filled-all}
 use Rattle.zint.specs.Rules.{zneeds}
 use Rattle.stage2_correlations.proofs.measured_lags.Statement.{statement}
 use Rattle.stage2_correlations.proofs.measured_lags.Tie as tie
@@ -46,7 +46,7 @@ returns c =
     let s = c .before in
     let a = s .before .before .args in
     let e : s .loop .i ≡ 132 = omega arith in
-    s .loop .inv .1 ∙ ap (λ (n : ℕ). filled (λ (q : ℕ). measured (a .kept .now) (14 + q)) n (replicate 132 false)) e ∙ filled-all (λ (q : ℕ). measured (a .kept .now) (14 + q)) 132 (replicate 132 false) refl
+    s .loop .inv .1 ∙ ap (λ (n : ℕ). filled (λ (q : ℕ). measured (a .kept .now) (14 + q)) n (replicate 132 false)) e ∙ filled-all (λ (q : ℕ). measured (a .kept .now) (14 + q)) 132 (replicate 132 false) (lit≤ tt)
 
 pub measured-lags-spec : {M : Type 1} → statement M
 measured-lags-spec =

@@ -4,18 +4,19 @@ use mathlib.Core.List.{List}
 use mathlib.Core.Logic.{⊎-elim}
 use Prim.Native.Nat.{ℕ, _+_, _-_, _*_, _≤_}
 use native.Mathlib.Omega.{arith}
+use lib.Dec.{lit≤}
 use lib.IntN.{ℤ, pos, _+ℤ_, _-ℤ_, _*ℤ_}
 use lib.ListN.{getD, replicate}
 use mir.Syntax.{w16, w32}
 use mir.Val.{toZ, ofZ}
 use Rattle.zint.specs.Wrap.{wrap}
 use Rattle.zint.specs.Read.{Reads, r-got, r-elem, r-lit, r-call2}
-use Rattle.lists.specs.Fill.{filled, filled-none, filled-turn}
+use Rattle.lists.specs.Fill.{filled, filled-none, filled-turn, filled-all}
 use Rattle.best.specs.Best.{some}
 use Rattle.stage2_correlations.specs.declared.Ratio.{Ratio}
 use Rattle.stage2_correlations.specs.Correlations.{target as start-of, divisor}
 use Rattle.stage2_correlations.specs.Rows.{energy-from, value-at, zero-at, row}
-use Rattle.stage2_correlations.specs.RowLaws.{filled-all, norm-is, energy-back, at-lag-is, some-more, some-same}
+use Rattle.stage2_correlations.specs.RowLaws.{norm-is, energy-back, at-lag-is, some-more, some-same}
 use Rattle.zint.specs.Rules.{zneeds}
 use Rattle.stage2_correlations.proofs.subframe_row.Statement.{statement}
 use Rattle.stage2_correlations.proofs.subframe_row.Tie as tie
@@ -170,7 +171,7 @@ returns c =
     let f = value-at (a .frame-8khz .now) (a .marks .now) (a .k) in
     let g = zero-at (a .frame-8khz .now) (a .marks .now) (a .k) in
     let i = s .loop .inv .1 .1 .1 .1 in
-    let p = i .0 ∙ ap (λ (n : ℕ). filled f n (replicate 132 (pos 0))) e ∙ filled-all f 132 (replicate 132 (pos 0)) refl in
+    let p = i .0 ∙ ap (λ (n : ℕ). filled f n (replicate 132 (pos 0))) e ∙ filled-all f 132 (replicate 132 (pos 0)) (lit≤ tt) in
     let q = i .1 ∙ ap (λ (n : ℕ). some n g) e in
     λ t. record { zero = q t; c = p t }
 

@@ -7,7 +7,7 @@ use lib.IntN.{pos}
 use lib.Signed.{leZ, ltZ}
 use mir.Syntax.{w32}
 use Rattle.zint.specs.Read.{r-nat, r-as, r-var}
-use Rattle.silk_tables.specs.TestLaws.{and-yes, and-no}
+use Rattle.zint.specs.BoolLaws.{and-yes, and-no}
 use Rattle.silk_tables.specs.Tables.{greatest-index, contours}
 use Rattle.silk_tables.specs.Rebuild.{carried}
 use Rattle.silk_tables.specs.ContourLaws.{greatest-le, contours-le-34}

@@ -4,7 +4,7 @@ use mathlib.Core.Bool.{Bool, _&&_, _||_}
 use mathlib.Core.Logic.{⊎-elim}
 use lib.Dec.{eqb, leb}
 use borrow.Author.Tests.{eq-eqb, ne-eqb}
-use Rattle.silk_tables.specs.TestLaws.{and-yes, and-no, or-yes, or-no}
+use Rattle.zint.specs.BoolLaws.{and-yes, and-no, or-yes, or-no}
 use Rattle.silk_tables.specs.Rebuild.{accepted}
 use Rattle.silk_tables.proofs.rebuild.settings_accepted.Statement.{statement}
 use Rattle.silk_tables.proofs.rebuild.settings_accepted.Tie as tie
