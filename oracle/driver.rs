@@ -9,6 +9,8 @@ mod list;
 mod probe;
 mod random;
 mod sheet;
+mod sheet_calls;
+mod sheet_list;
 mod signals;
 #[allow(warnings)]
 mod silk;
@@ -46,18 +48,23 @@ fn main() {
         ["sigproc"] => output(&leaves::sigproc()),
         ["lags"] => output(&leaves::lags()),
         ["frames_list"] => output(&list::frames_list()),
+        ["sheet_list"] => output(&sheet_list::sheet_list()),
         ["gen_frames", n, seed] => output(&kinds::gen_frames(number(n) as usize, number(seed))),
         ["gen_tracks", n, seed] => output(&track::gen_tracks(number(n) as usize, number(seed))),
         ["gen_sheets", n, seed] => output(&sheet::gen_sheets(number(n) as usize, number(seed))),
+        ["gen_sheet_cases", n, seed] => {
+            output(&sheet_list::gen_sheet_cases(number(n) as usize, number(seed)))
+        }
         ["track"] => output(track::track(&input()).as_bytes()),
         ["sheet_write"] => output(&sheet::sheet_write(&input())),
         ["sheet_read"] => output(sheet::sheet_read(&input()).as_bytes()),
         ["frames"] => output(frame::frames(&input()).as_bytes()),
         _ => {
             eprintln!(
-                "use: driver words | sort | resampler | sigproc | lags | frames_list\n     \
+                "use: driver words | sort | resampler | sigproc | lags | frames_list | sheet_list\n     \
                  driver frames | track | sheet_write | sheet_read\n     \
-                 driver gen_frames N SEED | gen_tracks N SEED | gen_sheets N SEED"
+                 driver gen_frames N SEED | gen_tracks N SEED | gen_sheets N SEED\n     \
+                 driver gen_sheet_cases N SEED"
             );
             std::process::exit(2);
         }

@@ -11,7 +11,7 @@ const MALFORMED: u32 = 9;
 
 /// The sheet's bytes: settings, verdicts, pairs, correlations, each after its
 /// count.
-fn bytes(s: &Settings, rows: &[Row]) -> Vec<u8> {
+pub fn bytes(s: &Settings, rows: &[Row]) -> Vec<u8> {
     let mut out = Vec::new();
     let voiced: Vec<&Row> = rows.iter().filter(|row| row[0] == 0).collect();
     out.extend(5u32.to_le_bytes());
@@ -63,7 +63,7 @@ fn claim(holds: bool) -> Result<(), u32> {
 }
 
 /// Settings and rows of a sheet, or 9.
-fn parse(b: &[u8]) -> Result<(Settings, Vec<Row>), u32> {
+pub fn parse(b: &[u8]) -> Result<(Settings, Vec<Row>), u32> {
     let mut left = Left(b);
     claim(left.count()? == 5)?;
     let n: Vec<i32> = left.take(20)?.chunks_exact(4).map(le32).collect();
