@@ -2,6 +2,7 @@
 //! lists. The analyser itself is the modules under `silk`, copied and cut by
 //! cut.py; nothing of it stands here.
 
+mod deliveries;
 mod frame;
 mod kinds;
 mod leaves;
@@ -15,6 +16,7 @@ mod signals;
 #[allow(warnings)]
 mod silk;
 mod track;
+mod track_list;
 
 use std::io::{Read, Write};
 
@@ -49,11 +51,15 @@ fn main() {
         ["lags"] => output(&leaves::lags()),
         ["frames_list"] => output(&list::frames_list()),
         ["sheet_list"] => output(&sheet_list::sheet_list()),
+        ["track_list"] => output(&track_list::track_list()),
         ["gen_frames", n, seed] => output(&kinds::gen_frames(number(n) as usize, number(seed))),
         ["gen_tracks", n, seed] => output(&track::gen_tracks(number(n) as usize, number(seed))),
         ["gen_sheets", n, seed] => output(&sheet::gen_sheets(number(n) as usize, number(seed))),
         ["gen_sheet_cases", n, seed] => {
             output(&sheet_list::gen_sheet_cases(number(n) as usize, number(seed)))
+        }
+        ["gen_deliveries", n, seed] => {
+            output(&deliveries::gen_deliveries(number(n) as usize, number(seed)))
         }
         ["track"] => output(track::track(&input()).as_bytes()),
         ["sheet_write"] => output(&sheet::sheet_write(&input())),
@@ -61,10 +67,11 @@ fn main() {
         ["frames"] => output(frame::frames(&input()).as_bytes()),
         _ => {
             eprintln!(
-                "use: driver words | sort | resampler | sigproc | lags | frames_list | sheet_list\n     \
+                "use: driver words | sort | resampler | sigproc | lags\n     \
+                 driver frames_list | sheet_list | track_list\n     \
                  driver frames | track | sheet_write | sheet_read\n     \
                  driver gen_frames N SEED | gen_tracks N SEED | gen_sheets N SEED\n     \
-                 driver gen_sheet_cases N SEED"
+                 driver gen_sheet_cases N SEED | gen_deliveries N SEED"
             );
             std::process::exit(2);
         }

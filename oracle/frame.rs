@@ -33,6 +33,21 @@ impl Settings {
             None
         }
     }
+
+    /// The settings in the first eleven bytes, or the number they are refused
+    /// with.
+    pub fn read(b: &[u8]) -> Result<Settings, u32> {
+        if let Some(no) = Settings::refusal(b[0] as u32, b[1] as u32, b[2] as u32) {
+            return Err(no);
+        }
+        Ok(Settings {
+            rate: b[0] as usize,
+            nb: b[1] as usize,
+            complexity: b[2] as usize,
+            thres1: le32(&b[3..]),
+            thres2: le32(&b[7..]),
+        })
+    }
 }
 
 #[derive(Clone, PartialEq, Eq, Debug)]
@@ -188,16 +203,7 @@ pub fn read_frame(b: &[u8]) -> Result<(Frame, usize), u32> {
     if b.len() < HEAD {
         return Err(10);
     }
-    if let Some(no) = Settings::refusal(b[0] as u32, b[1] as u32, b[2] as u32) {
-        return Err(no);
-    }
-    let settings = Settings {
-        rate: b[0] as usize,
-        nb: b[1] as usize,
-        complexity: b[2] as usize,
-        thres1: le32(&b[3..]),
-        thres2: le32(&b[7..]),
-    };
+    let settings = Settings::read(b)?;
     let end = HEAD + 2 * settings.samples();
     if b.len() < end {
         return Err(10);

@@ -1,7 +1,7 @@
 //! Document 01's track and the program `track`, over the original analyser,
 //! and inputs for it.
 
-use crate::frame::{Frame, Row, Settings, analyse, le16s, le32, row_text};
+use crate::frame::{Frame, Row, Settings, analyse, le16s, row_text};
 use crate::kinds::{all_settings, zero_known};
 use crate::random::Random;
 use crate::signals;
@@ -14,20 +14,29 @@ pub fn frames_in(s: &Settings, n: usize) -> usize {
     if n < s.samples() { 0 } else { 1 + (n - s.samples()) / s.hop() }
 }
 
-/// The rows of a whole track: each frame is given the last row's lag of its
-/// last subframe and its correlation, 0 and 0 at first.
-pub fn rows(s: &Settings, x: &[i16]) -> Vec<Row> {
-    let (mut prev_lag, mut prev_corr) = (0, 0);
+/// The rows of the samples x after a row that left this lag and correlation:
+/// each frame is given the last row's lag of its last subframe and its
+/// correlation.
+pub fn rows_after((mut prev_lag, mut prev_corr): (i32, i32), s: &Settings, x: &[i16]) -> Vec<Row> {
     let mut all = Vec::new();
     for i in 0..frames_in(s, x.len()) {
         let at = i * s.hop();
         let x = x[at..at + s.samples()].to_vec();
         let row = analyse(&Frame { settings: *s, prev_lag, prev_corr, x });
-        prev_lag = row[4 + s.nb - 1];
-        prev_corr = row[3];
+        (prev_lag, prev_corr) = left_by(s, &row);
         all.push(row);
     }
     all
+}
+
+/// The lag of a row's last subframe, and its correlation.
+pub fn left_by(s: &Settings, row: &Row) -> (i32, i32) {
+    (row[4 + s.nb - 1], row[3])
+}
+
+/// The rows of a whole track: 0 and 0 stand before the first.
+pub fn rows(s: &Settings, x: &[i16]) -> Vec<Row> {
+    rows_after((0, 0), s, x)
 }
 
 /// The program's input: settings and samples, or the number it is refused with.
@@ -35,16 +44,7 @@ pub fn read(b: &[u8]) -> Result<(Settings, Vec<i16>), u32> {
     if b.len() < HEAD || (b.len() - HEAD) % 2 == 1 {
         return Err(10);
     }
-    if let Some(no) = Settings::refusal(b[0] as u32, b[1] as u32, b[2] as u32) {
-        return Err(no);
-    }
-    let settings = Settings {
-        rate: b[0] as usize,
-        nb: b[1] as usize,
-        complexity: b[2] as usize,
-        thres1: le32(&b[3..]),
-        thres2: le32(&b[7..]),
-    };
+    let settings = Settings::read(b)?;
     let x = le16s(&b[HEAD..]);
     if frames_in(&settings, x.len()) > MOST_FRAMES {
         return Err(6);
@@ -75,7 +75,7 @@ pub fn track(b: &[u8]) -> String {
     }
 }
 
-fn write(s: &Settings, x: &[i16]) -> Vec<u8> {
+pub fn write(s: &Settings, x: &[i16]) -> Vec<u8> {
     let mut out = vec![s.rate as u8, s.nb as u8, s.complexity as u8];
     out.extend(s.thres1.to_le_bytes());
     out.extend(s.thres2.to_le_bytes());
@@ -84,7 +84,7 @@ fn write(s: &Settings, x: &[i16]) -> Vec<u8> {
 }
 
 /// Samples of a recording: pieces of any shape, voiced ones mostly.
-fn recording(s: &Settings, n: usize, r: &mut Random) -> Vec<i16> {
+pub fn recording(s: &Settings, n: usize, r: &mut Random) -> Vec<i16> {
     let mut x: Vec<i16> = Vec::new();
     while x.len() < n {
         let piece = 1 + r.below(4 * s.samples());
@@ -105,8 +105,8 @@ fn recording(s: &Settings, n: usize, r: &mut Random) -> Vec<i16> {
     x
 }
 
-/// One random input of the program, refused ones among them.
-fn random_track(r: &mut Random) -> Vec<u8> {
+/// Accepted settings, with thresholds of any size among them.
+pub fn random_settings(r: &mut Random) -> Settings {
     let mut s = r.pick(&all_settings());
     s.thres1 = r.between(20000, 60000) as i32;
     s.thres2 = r.between(0, 3000) as i32;
@@ -114,6 +114,20 @@ fn random_track(r: &mut Random) -> Vec<u8> {
         s.thres1 = r.pick(&[0, 52429, -1, 65535, 65536, i32::MAX, i32::MIN]);
         s.thres2 = r.pick(&[0, 500, 6000, -1000, 40000, i32::MAX, i32::MIN]);
     }
+    s
+}
+
+/// Samples with a zero divisor in frame `at`, for settings at 12 kHz.
+pub fn with_zero_divisor(s: &Settings, at: usize, n: usize, r: &mut Random) -> Vec<i16> {
+    let from = at * s.hop();
+    let mut x = recording(s, n.max(from + s.samples()), r);
+    x[from..from + s.samples()].copy_from_slice(&zero_known(*s).x);
+    x
+}
+
+/// One random input of the program, refused ones among them.
+fn random_track(r: &mut Random) -> Vec<u8> {
+    let s = random_settings(r);
     let (n, hop) = (s.samples(), s.hop());
     match r.below(40) {
         0 => (0..r.below(11)).map(|_| r.word() as u8).collect(),
@@ -144,10 +158,9 @@ fn random_track(r: &mut Random) -> Vec<u8> {
         11..14 => {
             // a frame with a zero divisor somewhere in a track at 12 kHz
             let s = Settings { rate: 12, ..s };
-            let at = r.below(6) * s.hop();
-            let mut x = recording(&s, at + s.samples() + r.below(4 * s.hop()), r);
-            x[at..at + s.samples()].copy_from_slice(&zero_known(s).x);
-            write(&s, &x)
+            let at = r.below(6);
+            let n = at * s.hop() + s.samples() + r.below(4 * s.hop());
+            write(&s, &with_zero_divisor(&s, at, n, r))
         }
         14..17 => {
             // loud and low at 12 kHz, where correlations can be 32768 or negative

@@ -1,0 +1,52 @@
+// An input of the program `track` and the text for it. The body: how many bytes of 0 stand after the input, the text's length (4 bytes each), the text, the input.
+ghost use mathlib.Core.Path.{_≡_};
+ghost use Prim.Native.Nat.{_<_, _≤_};
+ghost use lib.ListN.{length};
+use crate::least;
+use crate::sample_room;
+use crate::u32_at;
+use check::same;
+use track_text::track_text;
+
+// Room for the rows and the text of the longest track. The `ensures` of these gives only the length, so that nothing unfolds the zeros.
+fn table_room() -> [i32; 8192]
+    ensures { λ r. ⌜ 8192 ≡ length r ⌝ }
+{
+    [0; 8192]
+}
+
+fn text_room() -> [u8; 99350]
+    ensures { λ r. ⌜ 99350 ≡ length r ⌝ }
+{
+    [0; 99350]
+}
+
+// Whether the text for this input, with so many bytes after it, is the one told.
+fn is_told(input: &[u8], more: usize, told: &[u8]) -> bool
+    requires { ⌜ (0 < more → 656651 ≤ length (now input)) ⌝ }
+{
+    let mut samples = sample_room();
+    let mut table = table_room();
+    let mut out = text_room();
+    let r = track_text(input, more, &mut samples, &mut table, &mut out);
+    same(&out[..r], told)
+}
+
+// Whether the text is the one that the body tells. The bytes after the body are 0, and so the input's zeros are among them; those past the program's room are only counted.
+pub fn agrees(body: &[u8], size: usize) -> bool
+    requires { ⌜ (1048576 ≡ length (now body)) × (size ≤ 1048576) ⌝ }
+{
+    let zeros = u32_at(body, 0);
+    let told = u32_at(body, 4);
+    if told > 99350 {
+        return false;
+    }
+    let from = 8 + told;
+    if from > size {
+        return false;
+    }
+    let whole = size - from + zeros;
+    let len = least(whole, 656651);
+    let end = from + len;
+    is_told(&body[from..end], whole - len, &body[8..from])
+}
