@@ -1,10 +1,10 @@
--- `sheet_write::count_rest` meets its contract. Assumes nothing.
+-- `recording_io::count_rest` meets its contract. Assumes nothing.
 use mathlib.Core.Path.{_≡_}
 use Prim.Native.Nat.{_*_, _-_, _≤_}
 use borrow.Author.Needs.{needs}
 use lib.ListN.{length}
-use Rattle.sheet_write.proofs.count_rest.Statement.{statement}
-use Rattle.sheet_write.proofs.count_rest.Tie as tie
+use Rattle.recording_io.proofs.count_rest.Statement.{statement}
+use Rattle.recording_io.proofs.count_rest.Tie as tie
 
 abbrev Inv-loop : tie.InvT-loop
 Inv-loop chunk₀ total₀ turns₀ chunk total turns = (turns ≤ 1099511627776) × (total ≤ 65536 * turns) × (65536 ≡ length chunk)
