@@ -94,7 +94,7 @@ fn in_reach(d: usize, nb_subfr: usize, complexity: usize, j: usize, fs_khz: usiz
     d as i32 + silk_tables::lag_cb(nb_subfr, complexity, 0, j) <= (18 * fs_khz) as i32
 }
 
-// One pair more.
+// One pair more. Its reach is looked at last: few pairs score higher than the best so far.
 fn consider(
     best: Best,
     cross_corr: i32,
@@ -102,10 +102,13 @@ fn consider(
     contour_bias_q15: i32,
     d: usize,
     j: usize,
-    reach: bool,
+    nb_subfr: usize,
+    complexity: usize,
+    fs_khz: usize,
 ) -> Search
-    requires { ⌜ (pos 0 ≤ℤ «contour_bias_q15») × ((«contour_bias_q15» ≤ℤ pos 68) × (j < 34)) ⌝ }
-    ensures { λ r. ⌜ r ≡ considered best «cross_corr» energy «contour_bias_q15» d j reach ⌝ }
+    requires { ⌜ (pos 0 ≤ℤ «contour_bias_q15») × («contour_bias_q15» ≤ℤ pos 68) ⌝ }
+    requires { ⌜ Settings «nb_subfr» complexity × ((j < in-use «nb_subfr» complexity) × ((d ≤ 288) × («fs_khz» ≤ 16))) ⌝ }
+    ensures { λ r. ⌜ r ≡ considered best «cross_corr» energy «contour_bias_q15» d j (leZ (pos d +ℤ offset «nb_subfr» 0 j) (pos (18 * «fs_khz»))) ⌝ }
 {
     if cross_corr > 0 {
         let Quotient::Value(q) = silk_div32_varq(cross_corr, energy, 14) else {
@@ -113,8 +116,8 @@ fn consider(
         };
         let cc_max_new = mark_down(q, contour_bias_q15, j);
         let top = best.top;
-        if reach {
-            if cc_max_new > top {
+        if cc_max_new > top {
+            if in_reach(d, nb_subfr, complexity, j, fs_khz) {
                 return Search::Going(Best {
                     top: cc_max_new,
                     lag: d,
@@ -152,7 +155,6 @@ fn scan_contours(
     for j in 0..nb_cbk_search {
         let cross_corr = sum_subframes(0, cross_corr_st3, nb_subfr, j, lag_counter);
         let energy = sum_subframes(energy_target, energies_st3, nb_subfr, j, lag_counter);
-        let reach = in_reach(d, nb_subfr, complexity, j, fs_khz);
         let Search::Going(next) = consider(
             now_best,
             cross_corr,
@@ -160,7 +162,9 @@ fn scan_contours(
             contour_bias_q15,
             d,
             j,
-            reach,
+            nb_subfr,
+            complexity,
+            fs_khz,
         ) else {
             return Search::Stopped;
         };

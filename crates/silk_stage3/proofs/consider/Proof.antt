@@ -2,10 +2,13 @@
 use mathlib.Core.Path.{_≡_, sym, ap, ap₂, _∙_}
 use mathlib.Core.Bool.{true, false}
 use lib.IntN.{ℤ, pos}
-use lib.Signed.{ltZ, leZ-yes, ltZ-yes}
+use Prim.Native.Nat.{_<_}
+use native.Mathlib.Omega.{arith}
+use lib.Signed.{ltZ, _≤ℤ_, leZ-yes, ltZ-yes}
 use mir.Syntax.{w32}
 use mir.Val.{toZ, ofZ}
-use Rattle.zint.specs.Read.{r-var, r-got, t-above, via-lt}
+use Rattle.zint.specs.Read.{r-var, r-got, r-holds, t-above, via-lt}
+use Rattle.silk_tables.specs.TableLaws.{in-use-bounds}
 use Rattle.silk_stage3.specs.Pick.{quotient-of, biased}
 use Rattle.silk_stage3.specs.Searched.{stopped, better, lower, beyond, passed}
 use Rattle.silk_macros.specs.declared.Quotient.the-variants.{Value}
@@ -53,27 +56,35 @@ returns : tie.Need-returns
 returns c = sym (stopped _ _ _ _ _ _ _ (positive (c .before .before .before)) (sym (divided (c .before .before)) ∙ c .enum-told .given .1))
 
 mark-down-requires : tie.Need-mark-down-requires
-mark-down-requires c κs = search zneeds
+mark-down-requires c κs =
+    let s = c .before .before .before .before .before in
+    let u = in-use-bounds (s .pre .1 .0) in
+    let h : s .args .j < 34 = omega arith in
+    r-holds (λ (x : ℤ). (pos 0 ≤ℤ x) × ((x ≤ℤ pos 68) × (s .args .j < 34))) (r-var (s .fits .contour-bias-q15)) (s .pre .0 .0, (s .pre .0 .1, h))
+
+in-reach-requires : tie.Need-in-reach-requires
+in-reach-requires c κs = search zneeds
 
 returns-2 : tie.Need-returns-2
 returns-2 c =
-    let d = c .before .before .before in
+    let d = c .before .before .before .before in
     let n = marked d in
-    let a = d .before .before .before .before .before .before .args in
+    let s = d .before .before .before .before .before .before in
+    let a = s .args in
     ap (λ (x : ℤ). Going (record { top = x; lag = a .d; contour = a .j })) n
-    ∙ sym (better (a .best) _ _ _ _ _ _ (value (d .before .before)) (positive (d .before .before .before .before .before)) (known (d .before .before)) (c .before .if2 .taken) (via-lt _ _ _ _ true (c .if3 .taken) (top (c .before .before)) n))
+    ∙ sym (better (a .best) _ _ _ _ _ _ (value (d .before .before)) (positive (d .before .before .before .before .before)) (known (d .before .before)) (sym (c .before .in-reach .ensures) ∙ c .if3 .taken) (via-lt _ _ _ _ true (c .before .before .if2 .taken) (top (c .before .before .before)) n))
 
 returns-3 : tie.Need-returns-3
 returns-3 c =
-    let d = c .before .before .before in
+    let d = c .before .before .before .before in
     let a = d .before .before .before .before .before .before .args in
-    sym (lower (a .best) _ _ _ _ _ _ (value (d .before .before)) (positive (d .before .before .before .before .before)) (known (d .before .before)) (c .before .if2 .taken) (via-lt _ _ _ _ false (c .if3 .left) (top (c .before .before)) (marked d)))
+    sym (beyond (a .best) _ _ _ _ _ _ (value (d .before .before)) (positive (d .before .before .before .before .before)) (known (d .before .before)) (sym (c .before .in-reach .ensures) ∙ c .if3 .left))
 
 returns-4 : tie.Need-returns-4
 returns-4 c =
     let d = c .before .before in
     let a = d .before .before .before .before .before .before .args in
-    sym (beyond (a .best) _ _ _ _ _ _ (value (d .before .before)) (positive (d .before .before .before .before .before)) (known (d .before .before)) (c .if2 .left))
+    sym (lower (a .best) _ _ _ _ _ _ (value (d .before .before)) (positive (d .before .before .before .before .before)) (known (d .before .before)) (via-lt _ _ _ _ false (c .if2 .left) (top (c .before)) (marked d)))
 
 returns-5 : tie.Need-returns-5
 returns-5 c = sym (passed _ _ _ _ _ _ _ (t-above (pos 0) (r-var (c .before .fits .cross-corr)) (c .if1 .left)))
@@ -87,6 +98,7 @@ consider-spec =
     enum-told
     returns
     mark-down-requires
+    in-reach-requires
     returns-2
     returns-3
     returns-4
