@@ -2,6 +2,7 @@
 //! frames in one program: that the answers are equal, and how long each takes.
 #![allow(dead_code)]
 
+mod command;
 mod frame;
 mod kinds;
 mod probe;
@@ -10,6 +11,7 @@ mod signals;
 #[allow(warnings)]
 mod silk;
 
+use command::number;
 use frame::{Frame, Row, Settings, analyse};
 use kinds::{all_settings, plain, voiced};
 use random::Random;
@@ -195,16 +197,9 @@ fn table() {
     }
 }
 
-fn number(text: &str) -> usize {
-    text.parse().unwrap_or_else(|_| {
-        eprintln!("not a number: {text}");
-        std::process::exit(2);
-    })
-}
-
 fn main() {
     frame::quiet_zero_divisors();
-    let args: Vec<String> = std::env::args().skip(1).collect();
+    let args = command::words();
     let words: Vec<&str> = args.iter().map(|s| s.as_str()).collect();
     match words[..] {
         [] => table(),
@@ -214,7 +209,7 @@ fn main() {
             }
         }
         ["count", n, side @ ("ours" | "rust"), passes] => {
-            let l = line(number(n));
+            let l = line(number(n) as usize);
             for _ in 0..number(passes) {
                 pass(if side == "ours" { ours } else { original }, &l.frames);
             }

@@ -1,7 +1,7 @@
 //! The track on paper (document 01, "Track") for lists of deliveries, over the
 //! original analyser; the records of such lists, and random ones.
 
-use crate::frame::{Row, Settings};
+use crate::frame::{Asked, Row, Settings};
 use crate::kinds::{any_previous, plain};
 use crate::random::Random;
 use crate::track::{frames_in, left_by, random_settings, recording, rows_after, with_zero_divisor};
@@ -29,11 +29,7 @@ pub const PREVIOUS: u8 = 19;
 /// A state as a call is handed it: any numbers at all.
 #[derive(Clone)]
 pub struct State {
-    pub rate: u64,
-    pub nb: u64,
-    pub complexity: u64,
-    pub thres1: i32,
-    pub thres2: i32,
+    pub asked: Asked,
     pub frames: u64,
     pub count: u64,
     pub lag: i32,
@@ -45,30 +41,12 @@ pub struct State {
 impl State {
     pub fn fresh(s: &Settings) -> State {
         State {
-            rate: s.rate as u64,
-            nb: s.nb as u64,
-            complexity: s.complexity as u64,
-            thres1: s.thres1,
-            thres2: s.thres2,
+            asked: Asked::of(s),
             frames: 0,
             count: 0,
             lag: 0,
             correlation: 0,
             held: Vec::new(),
-        }
-    }
-
-    fn settings(&self) -> Result<Settings, u32> {
-        let small = |n: u64| u32::try_from(n).unwrap_or(u32::MAX);
-        match Settings::refusal(small(self.rate), small(self.nb), small(self.complexity)) {
-            Some(no) => Err(no),
-            None => Ok(Settings {
-                rate: self.rate as usize,
-                nb: self.nb as usize,
-                complexity: self.complexity as usize,
-                thres1: self.thres1,
-                thres2: self.thres2,
-            }),
         }
     }
 }
@@ -98,7 +76,7 @@ struct Paper<'a> {
 
 impl<'a> Paper<'a> {
     fn new(from: &'a State, numbers: usize) -> Paper<'a> {
-        let settings = from.settings();
+        let settings = from.asked.accepted();
         let count = usize::try_from(from.count).unwrap();
         if let Ok(s) = settings {
             assert!(count >= s.samples() || count <= from.held.len());
@@ -225,11 +203,11 @@ impl Deliveries {
     }
 
     fn head(&self, out: &mut Bytes) {
-        let s = &self.state;
-        let start = if self.started { s.settings().err().unwrap_or(0) } else { 0 };
+        let (s, a) = (&self.state, &self.state.asked);
+        let start = if self.started { a.accepted().err().unwrap_or(0) } else { 0 };
         out.0.extend([self.started as u8, start as u8]);
-        [s.rate, s.nb, s.complexity].iter().for_each(|&n| out.long(n));
-        [s.thres1, s.thres2].iter().for_each(|&n| out.word(n));
+        [a.rate, a.nb, a.complexity].iter().for_each(|&n| out.long(n));
+        [a.thres1, a.thres2].iter().for_each(|&n| out.word(n));
         [s.frames, s.count].iter().for_each(|&n| out.long(n));
         [s.lag, s.correlation].iter().for_each(|&n| out.word(n));
     }
@@ -361,9 +339,9 @@ fn with_odd_settings(mut state: State, r: &mut Random) -> State {
     for _ in 0..1 + r.below(3) {
         let odd = r.pick(&[0, 1, 2, 3, 4, 5, 7, 8, 12, 16, 24, 255, 1 << 32, u64::MAX, 1 << 63]);
         match r.below(3) {
-            0 => state.rate = odd.wrapping_add(r.below(2) as u64 * state.rate),
-            1 => state.nb = odd.wrapping_add(r.below(2) as u64 * state.nb),
-            _ => state.complexity = odd,
+            0 => state.asked.rate = odd.wrapping_add(r.below(2) as u64 * state.asked.rate),
+            1 => state.asked.nb = odd.wrapping_add(r.below(2) as u64 * state.asked.nb),
+            _ => state.asked.complexity = odd,
         }
     }
     state

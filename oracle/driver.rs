@@ -2,6 +2,7 @@
 //! lists. The analyser itself is the modules under `silk`, copied and cut by
 //! cut.py; nothing of it stands here.
 
+mod command;
 mod deliveries;
 mod frame;
 mod kinds;
@@ -18,6 +19,7 @@ mod silk;
 mod track;
 mod track_list;
 
+use command::number;
 use std::io::{Read, Write};
 
 fn input() -> Vec<u8> {
@@ -32,16 +34,9 @@ fn output(bytes: &[u8]) {
     out.flush().expect("standard output");
 }
 
-fn number(text: &str) -> u64 {
-    text.parse().unwrap_or_else(|_| {
-        eprintln!("not a number: {text}");
-        std::process::exit(2);
-    })
-}
-
 fn main() {
     frame::quiet_zero_divisors();
-    let args: Vec<String> = std::env::args().skip(1).collect();
+    let args = command::words();
     let words: Vec<&str> = args.iter().map(|s| s.as_str()).collect();
     match words[..] {
         ["words"] => output(&leaves::words()),

@@ -246,3 +246,40 @@ pub fn frames(mut b: &[u8]) -> String {
     }
     text
 }
+
+/// Settings as a caller may hand them over, refused ones too.
+#[derive(Clone, Copy)]
+pub struct Asked {
+    pub rate: u64,
+    pub nb: u64,
+    pub complexity: u64,
+    pub thres1: i32,
+    pub thres2: i32,
+}
+
+impl Asked {
+    pub fn of(s: &Settings) -> Asked {
+        Asked {
+            rate: s.rate as u64,
+            nb: s.nb as u64,
+            complexity: s.complexity as u64,
+            thres1: s.thres1,
+            thres2: s.thres2,
+        }
+    }
+
+    /// The settings, or refusal 1, 2 or 3.
+    pub fn accepted(&self) -> Result<Settings, u32> {
+        let held = |n: u64| n.min(u32::MAX as u64) as u32;
+        match Settings::refusal(held(self.rate), held(self.nb), held(self.complexity)) {
+            Some(no) => Err(no),
+            None => Ok(Settings {
+                rate: self.rate as usize,
+                nb: self.nb as usize,
+                complexity: self.complexity as usize,
+                thres1: self.thres1,
+                thres2: self.thres2,
+            }),
+        }
+    }
+}

@@ -1,11 +1,11 @@
 //! Cases for the calls that write and read a sheet: the fixed list that the gate
 //! replays, by kind, and random ones.
 
-use crate::frame::{Row, Settings, contours, greatest_index};
+use crate::frame::{Asked, Row, Settings, contours, greatest_index};
 use crate::kinds::all_settings;
 use crate::random::Random;
 use crate::sheet::bytes;
-use crate::sheet_calls::{Asked, Cases, MOST_FRAMES, voiced, write};
+use crate::sheet_calls::{Cases, MOST_FRAMES, voiced, write};
 
 const LONGEST: usize = 36 + 8 * 4096;
 /// The most numbers and bytes that a case has.

@@ -289,9 +289,9 @@ fn bad_states(list: &mut FixedList, r: &mut Random) {
             let s = random_settings(r);
             let mut bad = State { lag: 9, correlation: -9, ..holding(&s, 3, recording(&s, 50, r)) };
             match place {
-                0 => bad.rate = value,
-                1 => bad.nb = value,
-                _ => bad.complexity = value,
+                0 => bad.asked.rate = value,
+                1 => bad.asked.nb = value,
+                _ => bad.asked.complexity = value,
             }
             let start =
                 State { frames: 0, count: 0, lag: 0, correlation: 0, held: vec![], ..bad.clone() };
@@ -306,10 +306,10 @@ fn bad_states(list: &mut FixedList, r: &mut Random) {
             let x = recording(&s, 40, r);
             list.deliveries(handed(REFUSED_SETTINGS, bad.clone(), x.clone(), vec![0, 1, 39], 80));
             if place < 2 {
-                bad.complexity = 3;
+                bad.asked.complexity = 3;
             }
             if place == 0 {
-                bad.nb = r.pick(&[2, 3]);
+                bad.asked.nb = r.pick(&[2, 3]);
             }
             // whatever else is wrong with the state
             let worse = State { frames: u64::MAX, count: u64::MAX, ..bad };
