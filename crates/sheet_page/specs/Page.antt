@@ -73,7 +73,7 @@ readable Bad = false
 
 -- ---- when it is a sheet
 
--- five settings that are accepted, and at most 4,096 frames
+-- the settings' section and the frames' count, 28 bytes, are there; five settings that are accepted, and at most 4,096 frames
 unfoldable pub head-good : List ℕ → Bool
 head-good p = leb 28 (length p) && (eqb (number-at 4 p 0) 5 && (eqb (settings-no (settings-in p)) 0 && leb (frames-in p) 4096))
 

@@ -41,10 +41,11 @@ row-of s verdict index contour correlation =
     (cond (carried (s .rate) (s .nb) (s .complexity) index contour) (Held (voiced-row s index contour correlation)) Bad)
     (cond (eqZ verdict (pos 1) || eqZ verdict (pos 2)) (Held (quiet-row verdict)) Bad)
 
--- two rows are the same number for number
+-- four numbers are the same as four others
 unfoldable pub same-four : ℤ → ℤ → ℤ → ℤ → ℤ → ℤ → ℤ → ℤ → Bool
 same-four a0 a1 a2 a3 b0 b1 b2 b3 = eqZ a0 b0 && (eqZ a1 b1 && (eqZ a2 b2 && eqZ a3 b3))
 
+-- two rows are the same number for number
 unfoldable pub same-row : Row → Row → Bool
 same-row a b =
     same-four (a .verdict) (a .index) (a .contour) (a .correlation) (b .verdict) (b .index) (b .contour) (b .correlation)

@@ -19,7 +19,7 @@ listed Verdicts r = true
 listed Pairs r = eqZ (r .verdict) (pos 0)
 listed Correlations r = eqZ (r .verdict) (pos 0)
 
--- the entry: the verdict, a byte; the lag index, 2 bytes, unsigned, and the contour, 1; the correlation, 4 signed bytes
+-- the entry of a row that a sheet can hold (no number but the correlation is negative): the verdict, a byte; the lag index, 2 bytes, unsigned, and the contour, 1; the correlation, 4 signed bytes
 unfoldable pub entry : Section → Row → List ℕ
 entry Verdicts r = natAbs (r .verdict) ∷ []
 entry Pairs r = low-bytes 2 (natAbs (r .index)) ++ (natAbs (r .contour) ∷ [])
