@@ -1,19 +1,27 @@
--- The laws of `run`: what is left of a chain while it is run.
-use Prim.Native.Nat.{ℕ, zero, suc, _+_, _-_, _*_, _/_, _≤_, _<_}
+-- The laws of a run: what is left of a chain while it goes on, and what it has left at its end.
+use Prim.Native.Nat.{ℕ, zero, suc, _+_, _*_, _≤_, _<_, min}
 use mathlib.Core.Path.{_≡_, refl, sym, ap, subst, _∙_}
 use mathlib.Core.List.{List, [], _∷_, _++_, append-assoc, append-nil}
 use native.Mathlib.Omega.{arith}
 use native.Mathlib.Numerals.{add-one}
+use native.Mathlib.Nat.{min-eq-right}
+use mathlib.Core.Logic.{⊎-elim}
+use borrow.Author.Tests.{eq-eqb, ne-eqb, eqb-true}
+use mathlib.Core.Bool.{Bool, true, false, cond}
+use lib.Dec.{eqb}
 use lib.IntN.{ℤ}
-use lib.ListN.{length, getD, take, drop, set, drop-of-length-le}
-use lib.Seq.{drop-cons, drop-drop, take-suc-set, take-all}
+use lib.ListN.{length, getD, take, drop, set, length-take, drop-of-length-le}
+use lib.Seq.{drop-cons, take-suc-set, take-all, take-length, take-at}
 use Rattle.pitch_settings.specs.declared.Settings.{Settings}
 use Rattle.pitch_track.specs.declared.Track.{Track}
 use Rattle.pitch_track.specs.declared.Delivered.{Delivered}
+use Rattle.pitch_track.specs.declared.Ran.{Ran}
+use Rattle.pitch_track.specs.declared.Answer.the-variants.{Accepted, Refused}
 use Rattle.pitch_settings.specs.Settings.{settings-no}
 use Rattle.pitch_track.specs.Paper.{framesDone}
-use Rattle.pitch_track.specs.Step.{Outcome, outcome, startOf, deliverOf}
-use Rattle.pitch_track.specs.Chain.{Left, then, chainOf, runOf, finalJ, numberOf, numbersOf, partsOf, total, Ended}
+use Rattle.pitch_track.specs.Step.{Outcome, outcome, answerOf, startOf, deliverOf}
+use Rattle.pitch_track.specs.Chain.{Left, then, chainOf, runOf, finalJ, numberOf, numbersOf, partsOf, Ended, deliveriesOf, runOutcome, ranOf, EndsOnPaper}
+use Rattle.pitch_track.proofs.Frames.{lt-or-le}
 use Rattle.pitch_track.proofs.Words.{rows-say}
 use Rattle.pitch_track.proofs.OnPaper.{on-paper, equation}
 
@@ -41,52 +49,123 @@ ahead-more a b o said i v h e p =
     }
 
 -- the part that is delivered next, and what follows it
-module _ (cuts : List ℕ) (i : ℕ) (h : i < length cuts) where
-  pub total-more : total (drop i cuts) ≡ getD cuts i 0 + total (drop (suc i) cuts)
-  unfolding total
-  total-more = ap total (drop-cons cuts i 0 h)
-
-  pub chain-more : (tr : Track) (t samples : List ℤ) (at : ℕ)
-      → chainOf tr t (partsOf (drop i cuts) (drop at samples))
-      ≡ then (deliverOf tr t (take (getD cuts i 0) (drop at samples)))
-      (chainOf (deliverOf tr t (take (getD cuts i 0) (drop at samples)) .delivered .track) (deliverOf tr t (take (getD cuts i 0) (drop at samples)) .table)
-      (partsOf (drop (suc i) cuts) (drop (at + getD cuts i 0) samples)))
-  unfolding chainOf partsOf
-  chain-more tr t samples at = rw (drop-cons cuts i 0 h, ← drop-drop (getD cuts i 0) at samples)
+pub chain-more : (cuts : List ℕ) (i : ℕ) → i < length cuts → (tr : Track) (t x : List ℤ)
+    → chainOf tr t (partsOf (drop i cuts) x)
+    ≡ then (deliverOf tr t (take (getD cuts i 0) x))
+    (chainOf (deliverOf tr t (take (getD cuts i 0) x) .delivered .track) (deliverOf tr t (take (getD cuts i 0) x) .table) (partsOf (drop (suc i) cuts) (drop (getD cuts i 0) x)))
+unfolding chainOf partsOf
+chain-more cuts i h tr t x = rw (drop-cons cuts i 0 h)
 
 pub chain-none : (cuts : List ℕ) (i : ℕ) → length cuts ≤ i → (tr : Track) (t x : List ℤ)
     → chainOf tr t (partsOf (drop i cuts) x) ≡ record { said = []; track = tr; table = t }
 unfolding chainOf partsOf
 chain-none cuts i h tr t x = rw (drop-of-length-le cuts h)
 
--- a turn
-pub turn : (a : Left) (cuts : List ℕ) (i : ℕ) (tr : Track) (t samples : List ℤ) (at : ℕ) (said : List ℕ) (v : ℕ) (r : Delivered) (t′ : List ℤ)
+-- a turn: the part d is delivered, and y is what is left of the samples x
+pub turn : (a : Left) (cuts : List ℕ) (i : ℕ) (tr : Track) (t x d y : List ℤ) (said : List ℕ) (v : ℕ) (r : Delivered) (t′ : List ℤ)
     → i < length cuts → i < length said
-    → outcome r t′ ≡ deliverOf tr t (take (getD cuts i 0) (drop at samples))
+    → d ≡ take (getD cuts i 0) x → y ≡ drop (getD cuts i 0) x
+    → outcome r t′ ≡ deliverOf tr t d
     → v ≡ numberOf (r .answer)
-    → Ahead a said i (chainOf tr t (partsOf (drop i cuts) (drop at samples)))
-    → Ahead a (set said i v) (i + 1) (chainOf (r .track) t′ (partsOf (drop (i + 1) cuts) (drop (at + getD cuts i 0) samples)))
-turn a cuts i tr t samples at said v r t′ hc hs e ev p =
-    rw add-one
+    → Ahead a said i (chainOf tr t (partsOf (drop i cuts) x))
+    → Ahead a (set said i v) (i + 1) (chainOf (r .track) t′ (partsOf (drop (i + 1) cuts) y))
+turn a cuts i tr t x d y said v r t′ hc hs ed ey e ev p =
+    rw (add-one, ey)
     (ahead-more a _ (outcome r t′) said i v hs ev
     (subst
-    (λ (o : Outcome). Ahead a said i (then o (chainOf (o .delivered .track) (o .table) (partsOf (drop (suc i) cuts) (drop (at + getD cuts i 0) samples)))))
-    (sym e)
-    (subst (Ahead a said i) (chain-more cuts i hc tr t samples at) p)))
+    (λ (o : Outcome). Ahead a said i (then o (chainOf (o .delivered .track) (o .table) (partsOf (drop (suc i) cuts) (drop (getD cuts i 0) x)))))
+    (sym (e ∙ ap (deliverOf tr t) ed))
+    (subst (Ahead a said i) (chain-more cuts i hc tr t x) p)))
 
--- the end of a run
-pub ended : (s : Settings) → settings-no s ≡ 0 → (t : List ℤ) (ds : List (List ℤ)) (said : List ℕ) (tr : Track) (table : List ℤ) (i : ℕ)
-    → length said ≤ i → Ahead (runOf s t ds) said i (record { said = []; track = tr; table = table }) → Ended s t ds said tr table
+-- the end of the chain
+pub ahead-all : (a : Left) (said : List ℕ) (tr : Track) (table : List ℤ) (i : ℕ) → length said ≤ i → Ahead a said i (record { said = []; track = tr; table = table })
+    → (tr ≡ a .track) × ((said ≡ numbersOf (a .said)) × (table ≡ a .table))
 unfolding numbersOf
-ended s ok t ds said tr table i h p =
+ahead-all a said tr table i h p = (sym (p .tracks), (sym (p .numbers ∙ append-nil (take i said) ∙ take-all i said h), sym (p .tables)))
+
+-- a number past the end of a list takes or drops what its length does
+module _ {A : Type 0} (n : ℕ) (x : List A) where
+  pub take-min : take (min n (length x)) x ≡ take n x
+  take-min =
+      ⊎-elim
+      (λ (p : n < length x). let e : min n (length x) ≡ n = omega arith in ap (λ (m : ℕ). take m x) e)
+      (λ (p : length x ≤ n). ap (λ (m : ℕ). take m x) (min-eq-right p) ∙ take-length x ∙ sym (take-all n x p))
+      (lt-or-le n (length x))
+
+  pub drop-min : drop (min n (length x)) x ≡ drop n x
+  drop-min =
+      ⊎-elim
+      (λ (p : n < length x). let e : min n (length x) ≡ n = omega arith in ap (λ (m : ℕ). drop m x) e)
+      (λ (p : length x ≤ n). let e : length x ≤ min n (length x) = omega arith in drop-of-length-le x e ∙ sym (drop-of-length-le x p))
+      (lt-or-le n (length x))
+
+-- a number for each delivery
+pub length-said : (tr : Track) (t : List ℤ) (ds : List (List ℤ)) → length (numbersOf (chainOf tr t ds .said)) ≡ length ds
+unfolding chainOf numbersOf
+length-said tr t [] = refl
+length-said tr t (d ∷ ds) = ap suc (length-said (deliverOf tr t d .delivered .track) (deliverOf tr t d .table) ds)
+
+pub length-parts : (cuts : List ℕ) (x : List ℤ) → length (partsOf cuts x) ≡ length cuts
+unfolding partsOf
+length-parts [] x = refl
+length-parts (n ∷ ns) x = ap suc (length-parts ns (drop n x))
+
+-- what a run leaves is the track on paper
+pub ended : (s : Settings) → settings-no s ≡ 0 → (t : List ℤ) (ds : List (List ℤ)) (said : List ℕ) (tr : Track) (table : List ℤ)
+    → tr ≡ runOf s t ds .track → said ≡ numbersOf (runOf s t ds .said) → table ≡ runOf s t ds .table → Ended s t ds said tr table
+ended s ok t ds said tr table e n h =
     let q = on-paper s ok t ds in
     record {
-      answers-are = sym (p .numbers ∙ append-nil (take i said) ∙ take-all i said h) ∙ ap numbersOf (q .said);
-      frames-are = ap (λ (x : Track). x .frames) (sym (p .tracks)) ∙ q .frames;
-      held-are = ap (λ (x : Track). take (x .count) (x .held)) (sym (p .tracks)) ∙ q .held;
-      rows-are = λ k g. ap (λ (l : List ℤ). take 8 (drop (k * 8) l)) (sym (p .tables)) ∙ q .rows k g;
-      others-are = ap (drop (framesDone s (finalJ s t ds) * 8)) (sym (p .tables)) ∙ q .others;
+      answers-are = n ∙ ap numbersOf (q .said);
+      frames-are = ap (λ (x : Track). x .frames) e ∙ q .frames;
+      held-are = ap (λ (x : Track). take (x .count) (x .held)) e ∙ q .held;
+      rows-are = λ k g. ap (λ (l : List ℤ). take 8 (drop (k * 8) l)) h ∙ q .rows k g;
+      others-are = ap (drop (framesDone s (finalJ s t ds) * 8)) h ∙ q .others;
       rows-say = rows-say s (finalJ s t ds) ok;
-      state-is = sym (p .tracks) ∙ ap (λ (l : Left). l .track) (equation s ok t ds);
-      table-is = sym (p .tables) ∙ ap (λ (l : Left). l .table) (equation s ok t ds);
+      state-is = e ∙ ap (λ (l : Left). l .track) (equation s ok t ds);
+      table-is = h ∙ ap (λ (l : Left). l .table) (equation s ok t ds);
     }
+
+-- the number that `start` says is that of the settings
+pub start-number : (s : Settings) → numberOf (startOf s .answer) ≡ settings-no s
+unfolding startOf answerOf
+start-number s = by (eqb (settings-no s) 0) refl
+  where
+    by : (b : Bool) → eqb (settings-no s) 0 ≡ b → numberOf (cond b (Accepted 0) (Refused (settings-no s))) ≡ settings-no s
+    by true e = sym (eqb-true (settings-no s) 0 e)
+    by false e = refl
+
+-- a run with settings that are accepted, and one with settings that are refused
+module _ (s : Settings) (t : List ℤ) (cuts : List ℕ) (x : List ℤ) (said : List ℕ) where
+  abbrev made : List (List ℤ)
+  made = deliveriesOf s cuts x (length said)
+
+  module _ (ok : settings-no s ≡ 0) where
+    pub made-parts : made ≡ partsOf (take (length said) cuts) x
+    unfolding deliveriesOf
+    made-parts = rw (eq-eqb (settings-no s) 0 ok)
+
+    pub length-made : length made ≡ min (length said) (length cuts)
+    length-made = ap length made-parts ∙ length-parts (take (length said) cuts) x ∙ length-take (length said) cuts
+
+    -- front holds the numbers of the n deliveries
+    module _ (n : ℕ) (all : n ≡ length made) (r : Ran) (front : List ℕ) (table : List ℤ) (same-answer : r .answer ≡ startOf s .answer)
+        (same-track : r .track ≡ runOf s t made .track) (numbers : front ≡ numbersOf (runOf s t made .said)) (same-table : table ≡ runOf s t made .table) where
+      pub ran : runOutcome r (front ++ drop n said) table ≡ ranOf s t made said
+      unfolding ranOf
+      ran = λ i. runOutcome (record { answer = same-answer i; track = same-track i }) (numbers i ++ drop (all i) said) (same-table i)
+
+      pub ends : EndsOnPaper s t made (front ++ drop n said) r table
+      ends h =
+          ended s h t made _ (r .track) table same-track
+          (take-at front (drop n said) (length made) (ap length numbers ∙ length-said (startOf s .track) t made) ∙ numbers)
+          same-table
+
+  module _ (wrong : settings-no s ≡ 0 → ⊥) where
+    pub made-none : made ≡ []
+    unfolding deliveriesOf
+    made-none = rw (ne-eqb (settings-no s) 0 wrong)
+
+    pub refused : (r : Ran) → r .answer ≡ startOf s .answer → r .track ≡ startOf s .track → runOutcome r said t ≡ ranOf s t made said
+    unfolding ranOf chainOf numbersOf
+    refused r e h = (λ i. runOutcome (record { answer = e i; track = h i }) said t) ∙ ap (λ (ds : List (List ℤ)). ranOf s t ds said) (sym made-none)

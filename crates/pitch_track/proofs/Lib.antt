@@ -1,6 +1,5 @@
 -- The laws that belong to no one function.
 pub mod Frames
-pub mod Back
 pub mod Refusals
 pub mod Lists
 pub mod Rows
@@ -8,5 +7,4 @@ pub mod Deliver
 pub mod OnPaper
 pub mod Ahead
 pub mod Relational
-pub mod Cases
 pub mod Words

@@ -16,7 +16,7 @@ use Rattle.pitch_track.specs.declared.Answer.{Answer}
 use Rattle.pitch_track.specs.declared.Answer.the-variants.{Accepted, Refused}
 use Rattle.pitch_settings.specs.Settings.{frame-length, hop-length, settings-no}
 use Rattle.pitch_table.specs.Row.{numbers}
-use Rattle.pitch_track.specs.Paper.{F, before, nothing, rowAt, rowsOf, paperNo, joinedBy, answerTo, joined, answers, framesDone, samplesHeld, tableOf}
+use Rattle.pitch_track.specs.Paper.{F, before, nothing, rowAt, rowsOf, mostFrames, paperNo, joinedBy, answerTo, joined, answers, framesDone, samplesHeld, tableOf}
 use Rattle.pitch_track.specs.Step.{Outcome, outcome, padded, startOf, freshOf, zeros, refusalOf, noOf, pendingOf, prevOf, acceptedOf, deliverOf}
 use Rattle.pitch_track.specs.Chain.{Left, then, chainOf, runOf, finalJ, stateOf, OnPaper, kept, keptIf, finished}
 use Rattle.pitch_track.proofs.Frames.{lt-or-le, short, fits, rest, starts, parts, eq-or-ne}
@@ -28,11 +28,11 @@ use Rattle.pitch_track.proofs.Deliver.{refuses, accepts, made}
 
 -- what each test of the paper says of `paperNo`
 module _ (s : Settings) (rows : ℕ) (j d : List ℤ) where
-  paper-six : 4096 < F s (length j + length d) → paperNo s rows j d ≡ 6
+  paper-six : mostFrames < F s (length j + length d) → paperNo s rows j d ≡ 6
   unfolding paperNo
   paper-six p = rw (lt-ltb _ _ p)
 
-  module _ (within : F s (length j + length d) ≤ 4096) where
+  module _ (within : F s (length j + length d) ≤ mostFrames) where
     paper-none : F s (length j + length d) ≤ F s (length j) → paperNo s rows j d ≡ 0
     unfolding paperNo
     paper-none p = rw (le-ltb _ _ within, le-ltb _ _ p)
@@ -90,9 +90,7 @@ module _ (s : Settings) (ok : settings-no s ≡ 0) where
   module _ (t : List ℤ) where
     length-table : (j : List ℤ) → Reached s t j → length (tableOf s t j) ≡ length t
     unfolding tableOf
-    length-table j r =
-        length-append (rowsOf s j nothing (framesDone s j)) (drop (framesDone s j * 8) t)
-        ∙ omega (arith, length-rows s j nothing (framesDone s j), length-drop (framesDone s j * 8) t, r .fit)
+    length-table j r = simp (length-append, length-drop) (omega (arith, length-rows s j nothing (framesDone s j), r .fit))
 
     -- the program's refusal and the paper's have one number
     same-no : (j d : List ℤ) → Reached s t j → noOf (stateOf s j) (tableOf s t j) d ≡ paperNo s (length t / 8) j d
@@ -105,20 +103,20 @@ module _ (s : Settings) (ok : settings-no s ≡ 0) where
         let e : F s (length j) + F s (length (samplesHeld s j) + length d) ≡ F s (length j + length d) = added j d in
         ap (refusalOf s f h (length d)) (length-table j r)
         ∙ ⊎-elim
-        (λ (p : 4096 < n). six s f h (length d) (length t) ok (omega arith) ∙ sym (paper-six s (length t / 8) j d p))
+        (λ (p : 4096 < n). six s f h (length d) (length t) ok (omega arith) ∙ sym (paper-six s (length t / 8) j d (omega arith)))
         (λ (p : n ≤ 4096).
         ⊎-elim
         (λ (q : 0 < k).
         ⊎-elim
         (λ (m : length t / 8 < n).
         seven s f h (length d) (length t) ok (omega arith) (held-few j) q (omega arith)
-        ∙ sym (paper-seven s (length t / 8) j d p (omega arith) m))
+        ∙ sym (paper-seven s (length t / 8) j d (omega arith) (omega arith) m))
         (λ (m : n ≤ length t / 8).
         room s f h (length d) (length t) ok (omega arith) (held-few j) q (omega arith)
-        ∙ sym (paper-room s (length t / 8) j d p (omega arith) m))
+        ∙ sym (paper-room s (length t / 8) j d (omega arith) (omega arith) m))
         (lt-or-le (length t / 8) n))
         (λ (q : k ≤ 0).
-        none s f h (length d) (length t) ok (omega arith) (held-few j) q ∙ sym (paper-none s (length t / 8) j d p (omega arith)))
+        none s f h (length d) (length t) ok (omega arith) (held-few j) q ∙ sym (paper-none s (length t / 8) j d (omega arith) (omega arith)))
         (lt-or-le 0 k))
         (lt-or-le 4096 n)
 
@@ -172,7 +170,7 @@ module _ (s : Settings) (ok : settings-no s ≡ 0) where
       -- the finished rows stay, and what follows the new ones is what the table had
       front : take (f * 8) (tableOf s t j) ≡ rowsOf s j nothing f
       unfolding tableOf
-      front = take-at (rowsOf s j nothing (framesDone s j)) (drop (framesDone s j * 8) t) (framesDone s j * 8) (length-rows s j nothing (framesDone s j))
+      front = take-at _ _ _ (length-rows s j nothing (framesDone s j))
 
       back : drop ((f + k) * 8) (tableOf s t j) ≡ drop ((f + k) * 8) t
       unfolding tableOf
@@ -235,8 +233,8 @@ module _ (s : Settings) (ok : settings-no s ≡ 0) where
         ⊎-elim
         (λ (e : paperNo s whole-rows j d ≡ 0).
         let n : framesDone s (j ++ d) ≡ F s (length j + length d) = ap (F s) (length-append j d) in
-        let within : F s (length j + length d) ≤ 4096 =
-        ⊎-elim (λ q. absurd (omega (arith, paper-six s whole-rows j d q))) (λ q. q) (lt-or-le 4096 (F s (length j + length d))) in
+        let within : F s (length j + length d) ≤ mostFrames =
+        ⊎-elim (λ q. absurd (omega (arith, paper-six s whole-rows j d q))) (λ q. q) (lt-or-le mostFrames (F s (length j + length d))) in
         rw (joins s whole-rows j d e)
         (record {
           few = omega arith;

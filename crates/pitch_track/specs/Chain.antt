@@ -1,11 +1,15 @@
 -- A chain of deliveries from a fresh start, and what the track on paper says of all of it (the order's third demand).
 use Prim.Native.Nat.{ℕ, _+_, _-_, _*_, _/_, _≤_, _<_}
 use mathlib.Core.Path.{_≡_}
+use mathlib.Core.Bool.{cond}
 use mathlib.Core.List.{List, [], _∷_, _++_}
 use lib.IntN.{ℤ}
 use lib.ListN.{length, take, drop}
+use lib.Dec.{eqb}
 use Rattle.pitch_settings.specs.declared.Settings.{Settings}
+use Rattle.pitch_settings.specs.Settings.{settings-no}
 use Rattle.pitch_track.specs.declared.Track.{Track}
+use Rattle.pitch_track.specs.declared.Ran.{Ran}
 use Rattle.pitch_track.specs.declared.Answer.{Answer}
 use Rattle.pitch_track.specs.declared.Answer.the-variants.{Accepted, Refused}
 use Rattle.pitch_table.specs.Row.{numbers}
@@ -81,10 +85,6 @@ unfoldable pub partsOf : List ℕ → List ℤ → List (List ℤ)
 partsOf [] x = []
 partsOf (n ∷ ns) x = take n x ∷ partsOf ns (drop n x)
 
-unfoldable pub total : List ℕ → ℕ
-total [] = 0
-total (n ∷ ns) = n + total ns
-
 unfoldable pub numbersOf : List Answer → List ℕ
 numbersOf [] = []
 numbersOf (a ∷ rest) = numberOf a ∷ numbersOf rest
@@ -100,3 +100,27 @@ pub record Ended (s : Settings) (t : List ℤ) (ds : List (List ℤ)) (said : Li
       → RowSays s (windowOf s (finalJ s t ds) i) (before s (finalJ s t ds) nothing i .lag) (before s (finalJ s t ds) nothing i .correlation) (rowAt s (finalJ s t ds) nothing i)
   pub state-is : track ≡ stateOf s (finalJ s t ds)
   pub table-is : table ≡ tableOf s t (finalJ s t ds)
+
+-- ---- a whole run
+
+-- the deliveries that are made: none where the settings are refused, else the parts of x, as many as there are places for what is said
+unfoldable pub deliveriesOf : Settings → List ℕ → List ℤ → ℕ → List (List ℤ)
+deliveriesOf s cuts x places = cond (eqb (settings-no s) 0) (partsOf (take places cuts) x) []
+
+pub record RunOutcome : Type 0 where
+  pub ran : Ran
+  pub said : List ℕ
+  pub table : List ℤ
+
+abbrev pub runOutcome : Ran → List ℕ → List ℤ → RunOutcome
+runOutcome r said t = record { ran = r; said = said; table = t }
+
+-- what a run says and leaves: the start's answer, the chain's track and table, and a number for each delivery in the first places of said, whose others stay
+unfoldable pub ranOf : Settings → List ℤ → List (List ℤ) → List ℕ → RunOutcome
+ranOf s t ds said =
+    runOutcome (record { answer = startOf s .answer; track = runOf s t ds .track })
+    (numbersOf (runOf s t ds .said) ++ drop (length ds) said) (runOf s t ds .table)
+
+-- with settings that are accepted, it is the track on paper
+abbrev pub EndsOnPaper : Settings → List ℤ → List (List ℤ) → List ℕ → Ran → List ℤ → Type 0
+EndsOnPaper s t ds said r table = settings-no s ≡ 0 → Ended s t ds (take (length ds) said) (r .track) table

@@ -49,10 +49,14 @@ rowsOf s x p (suc k) = rowsOf s x p k ++ numbers (rowAt s x p k)
 abbrev pub nothing : Prev
 nothing = record { lag = pos 0; correlation = pos 0 }
 
+-- the frames that a track can have
+abbrev pub mostFrames : ℕ
+mostFrames = 4096
+
 -- the number of a refusal of delivery d after the samples j, or 0; rows is how many whole rows the table has
 unfoldable pub paperNo : Settings → ℕ → List ℤ → List ℤ → ℕ
 paperNo s rows j d =
-    cond (ltb 4096 (F s (length j + length d))) 6
+    cond (ltb mostFrames (F s (length j + length d))) 6
     (cond (ltb (F s (length j)) (F s (length j + length d))) (cond (ltb rows (F s (length j + length d))) 7 0) 0)
 
 -- J after the delivery

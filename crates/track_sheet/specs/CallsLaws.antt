@@ -14,7 +14,7 @@ use Rattle.pitch_settings.specs.declared.Settings.{Settings}
 use Rattle.pitch_settings.specs.Settings.{settings-no}
 use Rattle.pitch_track.specs.declared.Answer.the-variants.{Accepted, Refused}
 use Rattle.pitch_track.specs.Paper.{F, paperNo, answerTo, joinedBy, joined, answers, tableOf}
-use Rattle.pitch_track.specs.Step.{answerOf, startOf, noOf, acceptedOf, deliverOf, Outcome as Delivery}
+use Rattle.pitch_track.specs.Step.{startOf, noOf, acceptedOf, deliverOf, Outcome as Delivery}
 use Rattle.pitch_track.specs.Chain.{Left, chainOf, runOf, finalJ, numberOf}
 use Rattle.pitch_track.proofs.Frames.{lt-or-le, eq-or-ne}
 use Rattle.pitch_track.proofs.Deliver.{refuses, accepts}
@@ -26,16 +26,6 @@ use Rattle.pitch_sheet.specs.CallsLaws.{write-refused}
 use Rattle.track_sheet.specs.Accepted.{paper-sheet}
 use Rattle.track_sheet.specs.AcceptedLaws.{accepted-by-write}
 use Rattle.track_sheet.specs.Calls.{recording-no, outcome, trackSheetOf}
-
--- ---- the start
-
-pub start-number : (s : Settings) → numberOf (startOf s .answer) ≡ settings-no s
-unfolding startOf answerOf
-start-number s = by (eqb (settings-no s) 0) refl
-  where
-    by : (b : Bool) → eqb (settings-no s) 0 ≡ b → numberOf (cond b (Accepted 0) (Refused (settings-no s))) ≡ settings-no s
-    by true e = sym (eqb-true (settings-no s) 0 e)
-    by false e = refl
 
 module _ (s : Settings) (t x : List ℤ) (page : List ℕ) where
   -- a recording that is refused

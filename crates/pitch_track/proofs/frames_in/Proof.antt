@@ -2,7 +2,7 @@
 -- Assumes nothing.
 use native.Mathlib.Omega.{arith}
 use native.Mathlib.Nat.{div-le-self}
-use Prim.Native.Nat.{_-_}
+use Prim.Native.Nat.{_-_, _≤_, _<_}
 use borrow.Author.Tests.{lt-ltb, le-ltb}
 use Rattle.pitch_track.specs.Paper.{framesIn}
 use borrow.Author.Needs.{needs}
@@ -11,7 +11,7 @@ use Rattle.pitch_track.proofs.frames_in.Tie as tie
 
 returns : tie.Need-returns
 unfolding framesIn
-returns c = rw (lt-ltb _ _ (c .if1 .taken))
+returns c = let l : c .before .args .n < c .before .args .len = omega arith in rw (lt-ltb _ _ l)
 
 div-result : tie.Need-div-result
 div-result c = search needs
@@ -21,7 +21,7 @@ add-result c = omega (arith, div-le-self (c .before .args .n - c .before .args .
 
 returns-2 : tie.Need-returns-2
 unfolding framesIn
-returns-2 c = rw (le-ltb _ _ (c .if1 .left))
+returns-2 c = let l : c .before .args .len ≤ c .before .args .n = omega arith in rw (le-ltb _ _ l)
 
 pub frames-in-spec : {M : Type 1} → statement M
 frames-in-spec = tie.close (tie.spec returns div-result add-result returns-2)

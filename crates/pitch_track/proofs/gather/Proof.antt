@@ -10,7 +10,8 @@ use lib.IntN.{pos}
 use lib.ListN.{length, getD, take, drop}
 use Rattle.pitch_track.specs.Step.{zeros, padded}
 use Rattle.pitch_track.proofs.Lists.{length-pending, length-zeros, lay-more, length-part, part-at, lay-all}
-use Rattle.pitch_track.proofs.Back.{back16}
+use mir.Syntax.{w16}
+use Rattle.zint.specs.Read.{r-elem}
 use Rattle.pitch_track.proofs.gather.Statement.{statement}
 use Rattle.pitch_track.proofs.gather.Tie as tie
 
@@ -50,7 +51,7 @@ loop-again c =
     let w = take (a .size) (drop (a .from) x) in
     let fits : a .from + a .size ≤ length x = omega (arith, length-pending (a .held .now) (a .samples .now) (a .count) (c .before .before .before .pre .0)) in (
       omega arith,
-      rw (add-one, back16 (c .sample-at .result) (c .sample-at .ok), c .before .before .loop .inv .1)
+      rw (add-one, r-elem w16 (c .sample-at .result) (c .sample-at .ok) .val, c .before .before .loop .inv .1)
           (lay-more w zeros (c .before .before .loop .j) (c .sample-at .result)
           (omega (arith, length-part x (a .from) (a .size) fits))
           (omega (arith, length-zeros))

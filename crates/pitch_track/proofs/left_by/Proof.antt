@@ -2,17 +2,18 @@
 -- Assumes nothing.
 use borrow.Author.Tests.{eq-eqb, ne-eqb}
 use Rattle.pitch_track.specs.Paper.{after}
-use Rattle.pitch_track.proofs.Back.{back32}
+use mir.Syntax.{w32}
+use Rattle.zint.specs.Read.{r-elem}
 use Rattle.pitch_track.proofs.left_by.Statement.{statement}
 use Rattle.pitch_track.proofs.left_by.Tie as tie
 
 returns : tie.Need-returns
 unfolding after
-returns c = let r = c .before .before .before .before .args .r in let g = c .struct-told2 .given in simp (back32 (r .lag1) (g .1 .1 .1 .1 .1 .0 .1), back32 (r .correlation) (g .1 .1 .1 .0 .1), eq-eqb _ _ (c .before .if1 .taken))
+returns c = let r = c .before .before .before .before .args .r in let g = c .struct-told2 .given in simp (r-elem w32 (r .lag1) (g .1 .1 .1 .1 .1 .0 .1) .val, r-elem w32 (r .correlation) (g .1 .1 .1 .0 .1) .val, eq-eqb _ _ (c .before .if1 .taken))
 
 returns-2 : tie.Need-returns-2
 unfolding after
-returns-2 c = let r = c .before .before .before .before .args .r in let g = c .struct-told3 .given in simp (back32 (r .lag3) (g .1 .1 .1 .1 .1 .1 .1 .0 .1), back32 (r .correlation) (g .1 .1 .1 .0 .1), ne-eqb _ _ (c .before .if1 .left))
+returns-2 c = let r = c .before .before .before .before .args .r in let g = c .struct-told3 .given in simp (r-elem w32 (r .lag3) (g .1 .1 .1 .1 .1 .1 .1 .0 .1) .val, r-elem w32 (r .correlation) (g .1 .1 .1 .0 .1) .val, ne-eqb _ _ (c .before .if1 .left))
 
 pub left-by-spec : {M : Type 1} → statement M
 left-by-spec = tie.close (tie.spec returns returns-2)

@@ -1,146 +1,112 @@
--- `pitch_track::run` meets its contract, the claim over the list of deliveries. The invariant: the whole chain leaves what the rest of it leaves from here, with i answers before it.
+-- `pitch_track::run` meets its contract: with settings that are accepted it is the chain of the deliveries that have a place, and else the start alone.
 -- Assumes nothing.
 use borrow.Author.Needs.{needs}
-use mathlib.Core.Path.{_≡_, refl, sym, ap, subst, _∙_}
+use mathlib.Core.Path.{_≡_, sym, ap, _∙_}
 use mathlib.Core.List.{List, _++_}
-use Prim.Native.Nat.{ℕ, suc, _+_, _-_, _*_, _≤_}
+use Prim.Native.Nat.{ℕ, _≤_, min}
 use native.Mathlib.Omega.{arith}
-use native.Mathlib.Numerals.{add-one}
 use lib.IntN.{ℤ}
-use lib.ListN.{length, take, drop, getD, length-set}
-use Rattle.pitch_track.specs.declared.Track.{Track}
+use lib.ListN.{length, take, drop, length-append, length-drop}
+use lib.Seq.{length-take-le}
+use Rattle.pitch_settings.specs.Settings.{settings-no}
 use Rattle.pitch_track.specs.declared.Started.{Started}
-use Rattle.pitch_track.specs.Step.{outcome, startOf, deliverOf}
-use Rattle.pitch_track.specs.Chain.{Left, chainOf, partsOf, total, numberOf}
-use Rattle.pitch_track.proofs.Ahead.{Ahead, ahead-none, ahead-more, total-more, chain-more, chain-none, ended, turn}
+use Rattle.pitch_track.specs.declared.Answer.{Answer}
+use Rattle.pitch_track.specs.Chain.{Left, numbersOf, numberOf, chainOf, partsOf, runOf, deliveriesOf}
+use Rattle.pitch_track.proofs.Ahead.{take-min, start-number, made-parts, length-made, ran, ends, refused}
 use Rattle.pitch_track.proofs.run.Statement.{statement}
 use Rattle.pitch_track.proofs.run.Tie as tie
 
-abbrev Inv-loop : tie.InvT-loop
-Inv-loop samples cuts table₀ said₀ track₀ at₀ i₀ table said track at i =
-    (i ≤ length cuts)
-    × (at + total (drop i cuts) ≤ length samples)
-    × (length table ≡ length table₀)
-    × (length said ≡ length said₀)
-    × Ahead (chainOf track₀ table₀ (partsOf cuts samples)) said i (chainOf track table (partsOf (drop i cuts) (drop at samples)))
+-- the number that the start said
+number-is : (c : tie.After-number) → c .number .result ≡ settings-no (c .before .before .before .before .before .args .s)
+number-is c =
+    let s = c .before .before .before .before .before in
+    c .number .ensures ∙ ap (λ (r : Started). numberOf (r .answer)) (c .before .before .start .ensures) ∙ start-number (s .args .s)
 
-abbrev μ-loop : tie.MeasureT-loop
-μ-loop samples cuts table₀ said₀ track₀ at₀ i₀ table said track at i = length cuts - i
-
-within : (c : tie.After-shared-slice-known2 Inv-loop μ-loop)
-    → c .before .before .loop .at + getD (c .before .before .before .before .before .before .before .args .cuts .now) (c .before .before .loop .i) 0 ≤ length (c .before .before .before .before .before .before .before .args .samples .now)
-within c =
-    omega (arith, c .before .before .loop .inv .1, total-more (c .before .before .before .before .before .before .before .args .cuts .now) (c .before .before .loop .i) (c .before .loop-test .taken))
-
-start-requires : tie.Need-start-requires Inv-loop μ-loop
+start-requires : tie.Need-start-requires
 start-requires c κs = search needs
 
-loop-holds : tie.Need-loop-holds Inv-loop μ-loop
-loop-holds c = (
-  omega arith,
-  omega arith,
-  refl,
-  refl,
-  ahead-none _ _,
-)
-
-mul-n : tie.Need-mul-n Inv-loop μ-loop
-mul-n c = search needs
-
-shared-slice-read-n : tie.Need-shared-slice-read-n Inv-loop μ-loop
-shared-slice-read-n c = search needs
-
-add-end : tie.Need-add-end Inv-loop μ-loop
-add-end c = omega (arith, c .before .before .before .before .before .before .before .good, c .before .before .loop .inv .1, total-more (c .before .before .before .before .before .before .before .args .cuts .now) (c .before .before .loop .i) (c .before .loop-test .taken))
-
-mul-part : tie.Need-mul-part Inv-loop μ-loop
-mul-part c = omega (arith, c .before .before .before .before .before .before .before .good, c .before .before .loop .inv .1)
-
-sub-part : tie.Need-sub-part Inv-loop μ-loop
-sub-part c = omega arith
-
-part-part-start : tie.Need-part-part-start Inv-loop μ-loop
-part-part-start c = omega arith
-
-part-part-end : tie.Need-part-part-end Inv-loop μ-loop
-part-part-end c = within c
-
-deliver-requires : tie.Need-deliver-requires Inv-loop μ-loop
-deliver-requires c κs = search needs
-
-number-requires : tie.Need-number-requires Inv-loop μ-loop
+number-requires : tie.Need-number-requires
 number-requires c κs = search needs
 
-mul-said : tie.Need-mul-said Inv-loop μ-loop
-mul-said c = search needs
-
-slice-write-said : tie.Need-slice-write-said Inv-loop μ-loop
-slice-write-said c = omega arith
-
-add-i : tie.Need-add-i Inv-loop μ-loop
-add-i c = omega arith
-
-loop-less : tie.Need-loop-less Inv-loop μ-loop
-loop-less c = omega arith
-
-loop-again : tie.Need-loop-again Inv-loop μ-loop
-loop-again c =
-    let a = c .before .before .before .before .before .before .before .before .before .before .before .before .before .args in
-    let l = c .before .before .before .before .before .before .before .before .loop in
-    let n = getD (a .cuts .now) (l .i) 0 in
-    let h = c .before .before .before .before .before .before .before .loop-test .taken in
-    let d = c .before .before .before .deliver in
-    let e : l .at + n - l .at ≡ n = omega arith in (
-      omega arith,
-      rw add-one (omega (arith, total-more (a .cuts .now) (l .i) h)),
-      d .kept .1 .1 .0 ∙ l .inv .2,
-      length-set (l .said) (l .i) (c .number .result) ∙ l .inv .3,
-      turn _ (a .cuts .now) (l .i) (l .track) (l .table) (a .samples .now) (l .at) (l .said) (c .number .result) (d .result) (d .last .1 .1 .0)
-          h (omega (arith, l .inv .3, c .before .before .before .before .before .before .before .before .before .before .before .before .before .pre .2, h))
-          (d .ensures ∙ ap (λ (m : ℕ). deliverOf (l .track) (l .table) (take m (drop (l .at) (a .samples .now)))) e)
-          (c .number .ensures)
-          (l .inv .4),
+returns : tie.Need-returns
+returns c =
+    let s = c .before .before .before .before .before .before in
+    let e = c .before .before .before .start .ensures in
+    let wrong : settings-no (s .args .s) ≡ 0 → ⊥ = λ z. omega (arith, number-is (c .before), c .if1 .taken) in (
+      refused (s .args .s) (s .args .table .now) (s .args .cuts .now) (s .args .samples .now) (s .args .said .now) wrong _ (ap (λ (r : Started). r .answer) e) (ap (λ (r : Started). r .track) e),
+      λ z. absurd (wrong z),
     )
 
-same-length : tie.Need-same-length Inv-loop μ-loop
-same-length c = c .before .loop .inv .2
+lesser-requires : tie.Need-lesser-requires
+lesser-requires c κs = search needs
 
-same-length-2 : tie.Need-same-length-2 Inv-loop μ-loop
-same-length-2 c = c .before .loop .inv .3
+-- the deliveries that are made
+module _ (c : tie.After-lesser) where
+  abbrev start : tie.Start
+  start = c .before .before .before .before .before .before .before
 
-returns : tie.Need-returns Inv-loop μ-loop
-returns c =
-    let a = c .before .before .before .before .before .before .args in
-    let l = c .before .loop in
-    ended (a .s) (c .before .before .before .before .before .before .pre .0) (a .table .now) (partsOf (a .cuts .now) (a .samples .now)) (l .said) (l .track) (l .table) (l .i) (omega arith)
-    (subst (λ (b : Left). Ahead (chainOf (startOf (a .s) .track) (a .table .now) (partsOf (a .cuts .now) (a .samples .now))) (l .said) (l .i) b)
-    (chain-none (a .cuts .now) (l .i) (omega arith) (l .track) (l .table) (drop (l .at) (a .samples .now)))
-    (subst (λ (tr : Track). Ahead (chainOf tr (a .table .now) (partsOf (a .cuts .now) (a .samples .now))) (l .said) (l .i) (chainOf (l .track) (l .table) (partsOf (drop (l .i) (a .cuts .now)) (drop (l .at) (a .samples .now)))))
-    (ap (λ (r : Started). r .track) (c .before .before .before .start .ensures))
-    (l .inv .4)))
+  abbrev n : ℕ
+  n = c .lesser .result
+
+  ok : settings-no (start .args .s) ≡ 0
+  ok = omega (arith, number-is (c .before .before), c .before .if1 .left)
+
+  abbrev made : List (List ℤ)
+  made = deliveriesOf (start .args .s) (start .args .cuts .now) (start .args .samples .now) (length (start .args .said .now))
+
+  places : n ≤ length (start .args .said .now)
+  places = omega (arith, c .lesser .ensures)
+
+  cuts : n ≤ length (start .args .cuts .now)
+  cuts = omega (arith, c .lesser .ensures)
+
+  all : n ≡ length made
+  all = c .lesser .ensures ∙ sym (length-made (start .args .s) (start .args .table .now) (start .args .cuts .now) (start .args .samples .now) (start .args .said .now) ok)
+
+  parts : partsOf (take n (start .args .cuts .now)) (start .args .samples .now) ≡ made
+  parts =
+      ap (λ (l : List ℕ). partsOf l (start .args .samples .now)) (ap (λ (m : ℕ). take m (start .args .cuts .now)) (c .lesser .ensures) ∙ take-min (length (start .args .said .now)) (start .args .cuts .now))
+      ∙ sym (made-parts (start .args .s) (start .args .table .now) (start .args .cuts .now) (start .args .samples .now) (start .args .said .now) ok)
+
+  -- the chain of them
+  chain : chainOf (c .before .before .before .before .start .result .track) (start .args .table .now) (partsOf (take n (start .args .cuts .now)) (start .args .samples .now)) ≡ runOf (start .args .s) (start .args .table .now) made
+  chain = λ i. chainOf (c .before .before .before .before .start .ensures i .track) (start .args .table .now) (parts i)
+
+slice-aggregate-deliver-parts : tie.Need-slice-aggregate-deliver-parts
+slice-aggregate-deliver-parts c = sym (length-take-le _ _ (cuts (c .before)))
+
+slice-relend-prefix-deliver-parts : tie.Need-slice-relend-prefix-deliver-parts
+slice-relend-prefix-deliver-parts c = places (c .before .before)
+
+slice-aggregate-deliver-parts-2 : tie.Need-slice-aggregate-deliver-parts-2
+slice-aggregate-deliver-parts-2 c = sym (length-take-le _ _ (places (c .before .before .before)))
+
+deliver-parts-requires : tie.Need-deliver-parts-requires
+deliver-parts-requires c κs = length-take-le _ _ (places (c .before .before .before)) ∙ sym (length-take-le _ _ (cuts (c .before .before .before)))
+
+same-length : tie.Need-same-length
+same-length c = c .before .before .before .deliver-parts .kept .1 .1 .1 .0
+
+same-length-2 : tie.Need-same-length-2
+same-length-2 c =
+    let p = c .before .before .before in
+    let k = p .before .before .before .before in
+    let said = start k .args .said .now in
+    rw length-append (omega (arith, p .deliver-parts .kept .1 .1 .1 .1 .0, length-take-le (n k) said (places k), length-drop (n k) said, places k))
+
+returns-2 : tie.Need-returns-2
+returns-2 c =
+    let p = c .before .before .before in
+    let k = p .before .before .before .before in
+    let a = start k .args in
+    let o = p .deliver-parts .ensures in
+    let e = ap (λ (r : Started). r .answer) (k .before .before .before .before .start .ensures) in
+    let track = o .0 ∙ ap (λ (l : Left). l .track) (chain k) in
+    let numbers = o .1 .0 ∙ ap (λ (l : Left). numbersOf (l .said)) (chain k) in
+    let table = o .1 .1 ∙ ap (λ (l : Left). l .table) (chain k) in (
+      ran (a .s) (a .table .now) (a .cuts .now) (a .samples .now) (a .said .now) (ok k) (n k) (all k) _ _ _ e track numbers table,
+      ends (a .s) (a .table .now) (a .cuts .now) (a .samples .now) (a .said .now) (ok k) (n k) (all k) _ _ _ e track numbers table,
+    )
 
 pub run-spec : {M : Type 1} → statement M
-run-spec =
-    tie.close
-    (tie.spec
-    Inv-loop
-    μ-loop
-    start-requires
-    loop-holds
-    mul-n
-    shared-slice-read-n
-    add-end
-    mul-part
-    sub-part
-    part-part-start
-    part-part-end
-    deliver-requires
-    number-requires
-    mul-said
-    slice-write-said
-    add-i
-    loop-less
-    loop-again
-    same-length
-    same-length-2
-    returns)
+run-spec = tie.close (tie.spec start-requires number-requires returns lesser-requires slice-aggregate-deliver-parts slice-relend-prefix-deliver-parts slice-aggregate-deliver-parts-2 deliver-parts-requires same-length same-length-2 returns-2)

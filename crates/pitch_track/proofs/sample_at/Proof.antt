@@ -4,7 +4,8 @@ use mathlib.Core.Path.{sym, _∙_}
 use Prim.Native.Nat.{_-_}
 use lib.IntN.{pos}
 use lib.ListN.{getD}
-use Rattle.pitch_track.proofs.Back.{back16}
+use mir.Syntax.{w16}
+use Rattle.zint.specs.Read.{r-elem}
 use Rattle.pitch_track.proofs.Lists.{at-held, at-new}
 use borrow.Author.Needs.{needs}
 use Rattle.pitch_track.proofs.sample_at.Statement.{statement}
@@ -17,7 +18,7 @@ shared-slice-copy-out-result : tie.Need-shared-slice-copy-out-result
 shared-slice-copy-out-result c = search needs
 
 returns : tie.Need-returns
-returns c = let a = c .before .before .args in back16 (getD (a .held .now) (a .p) (pos 0)) (c .result .given) ∙ sym (at-held (a .held .now) (a .samples .now) (a .count) (c .before .before .pre .0) (a .p) (pos 0) (c .before .if1 .taken))
+returns c = let a = c .before .before .args in r-elem w16 (getD (a .held .now) (a .p) (pos 0)) (c .result .given) .val ∙ sym (at-held (a .held .now) (a .samples .now) (a .count) (c .before .before .pre .0) (a .p) (pos 0) (c .before .if1 .taken))
 
 mul-result-2 : tie.Need-mul-result-2
 mul-result-2 c = search needs
@@ -26,7 +27,7 @@ shared-slice-copy-out-result-2 : tie.Need-shared-slice-copy-out-result-2
 shared-slice-copy-out-result-2 c = search needs
 
 returns-2 : tie.Need-returns-2
-returns-2 c = let a = c .before .before .args in back16 (getD (a .samples .now) (a .p - a .count) (pos 0)) (c .result2 .given) ∙ sym (at-new (a .held .now) (a .samples .now) (a .count) (c .before .before .pre .0) (a .p) (pos 0) (c .before .if1 .left))
+returns-2 c = let a = c .before .before .args in r-elem w16 (getD (a .samples .now) (a .p - a .count) (pos 0)) (c .result2 .given) .val ∙ sym (at-new (a .held .now) (a .samples .now) (a .count) (c .before .before .pre .0) (a .p) (pos 0) (c .before .if1 .left))
 
 pub sample-at-spec : {M : Type 1} → statement M
 sample-at-spec =

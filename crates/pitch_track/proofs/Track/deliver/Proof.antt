@@ -17,7 +17,7 @@ use Rattle.pitch_settings.specs.SettingsLaws.{accepted}
 use Rattle.pitch_track.proofs.Frames.{rest, starts}
 use Rattle.pitch_track.proofs.Refusals.{Passed, passed}
 use Rattle.pitch_track.proofs.Lists.{length-pending}
-use Rattle.pitch_track.proofs.Back.{back32}
+use Rattle.zint.specs.Read.{r-elem}
 use Rattle.pitch_track.proofs.Deliver.{refuses, accepts, made, kept}
 use borrow.Author.Needs.{needs}
 use Rattle.pitch_track.proofs.Track.deliver.Statement.{statement}
@@ -110,7 +110,7 @@ returns-2 c =
     let told = c .before .before .before .before .before .before .before .before .struct-told .given in
     let q = c .before .before .before .before .before .put-rows .result in
     let prev : _≡_ {A = Prev} (record { lag = toZ w32 (ofZ w32 (a .self .lag)); correlation = toZ w32 (ofZ w32 (a .self .correlation)) }) (prevOf (a .self)) =
-    simp (back32 (a .self .lag) (told .1 .1 .1 .1 .0 .1), back32 (a .self .correlation) (told .1 .1 .1 .1 .1 .0 .1)) in
+    simp (r-elem w32 (a .self .lag) (told .1 .1 .1 .1 .0 .1) .val, r-elem w32 (a .self .correlation) (told .1 .1 .1 .1 .1 .0 .1) .val) in
     let e : q ≡ before s x (prevOf (a .self)) k = c .before .before .before .before .before .put-rows .ensures .0 ∙ ap (λ (p : Prev). before s x p k) prev in
     let size : length x ≡ k * hop + (n - k * hop) =
     omega (arith, length-pending (a .self .held) (a .samples .now) (a .self .count) (held-fits (c .before .before .before .before .before .before .before)), from-fits (c .before .before .before .before .before .before .before .before .before .before)) in
@@ -120,8 +120,8 @@ returns-2 c =
     (c .before .before .gather .ensures
     ∙ ap padded (kept x (k * hop) (n - k * hop) size ∙ ap (λ (h : ℕ). drop (k * h) x) (c .before .before .before .before .before .before .before .before .before .before .before .hop-length .ensures)))
     (ap (λ (h : ℕ). n - k * h) (c .before .before .before .before .before .before .before .before .before .before .before .hop-length .ensures))
-    (back32 (q .lag) (c .struct-told3 .given .0 .1) ∙ ap (λ (p : Prev). p .lag) e)
-    (back32 (q .correlation) (c .struct-told3 .given .1 .0 .1) ∙ ap (λ (p : Prev). p .correlation) e)
+    (r-elem w32 (q .lag) (c .struct-told3 .given .0 .1) .val ∙ ap (λ (p : Prev). p .lag) e)
+    (r-elem w32 (q .correlation) (c .struct-told3 .given .1 .0 .1) .val ∙ ap (λ (p : Prev). p .correlation) e)
     (c .before .before .before .before .before .put-rows .ensures .1
     ∙ ap (λ (p : Prev). take (a .self .frames * 8) (a .table .now) ++ rowsOf s x p k ++ drop ((a .self .frames + k) * 8) (a .table .now)) prev)
     ∙ ap (acceptedOf (a .self) (a .table .now) (a .samples .now)) (new (c .before .before .before .before .before .before .before .before .before .before))
