@@ -2,20 +2,19 @@
 // A record is the frame's kind, its rate, subframes and complexity (a byte each), the two thresholds, the previous lag and the previous correlation (4 bytes each), N samples
 // (2 bytes each), then the source's row: verdict, lag index, contour, correlation and four lags (4 bytes each). All are little-endian.
 ghost use Prim.Native.Nat.{_<_, _≤_};
-use cases_io::Tally;
 use cases_io::byte_at;
+use cases_io::count;
 use cases_io::i32_at;
 use cases_io::load_i16s;
+use cases_io::report;
 use cases_io::skip;
 use libc::STDIN_FILENO;
-use libc::STDOUT_FILENO;
 use pitch_settings::Settings;
 use pitch_settings::frame_length;
 use pitch_settings::settings_no;
 use silk_pitch_analysis::Answer;
 use silk_pitch_analysis::Verdict;
 use silk_pitch_analysis::silk_pitch_analysis_core;
-use std::num::wrapping_add_u64;
 
 // What the lag places hold before the call; no lag is negative.
 const UNTOUCHED: i32 = -7;
@@ -105,36 +104,6 @@ fn record_agrees(head: &[u8]) -> bool {
     agrees(&body, n, s, i32_at(head, 12), i32_at(head, 16))
 }
 
-// A line for each kind, and one for all.
-fn report(agreed: &[u64; 30], total: &[u64; 30]) {
-    let mut all_agreed = 0;
-    let mut all = 0;
-    for kind in 0..30 {
-        io::write_all(STDOUT_FILENO, b"kind ");
-        io::print_decimal(STDOUT_FILENO, kind as u64);
-        Tally {
-            agreed: agreed[kind],
-            total: total[kind],
-        }.print(b":");
-        all_agreed = wrapping_add_u64(all_agreed, agreed[kind]);
-        all = wrapping_add_u64(all, total[kind]);
-    }
-    Tally {
-        agreed: all_agreed,
-        total: all,
-    }.print(b"all:");
-}
-
-// One record more of this kind.
-fn count(agreed: &mut [u64; 30], total: &mut [u64; 30], kind: usize, agrees: bool)
-    requires { ⌜ kind < 30 ⌝ }
-{
-    total[kind] = wrapping_add_u64(total[kind], 1);
-    if agrees {
-        agreed[kind] = wrapping_add_u64(agreed[kind], 1);
-    }
-}
-
 // Counts the records up to the first that is cut in its head or of an unknown kind, at most 100,000.
 fn replay(agreed: &mut [u64; 30], total: &mut [u64; 30]) {
     for _ in 0..100000usize {
@@ -149,9 +118,14 @@ fn replay(agreed: &mut [u64; 30], total: &mut [u64; 30]) {
     }
 }
 
+// An array's length is known by its type, whatever was counted in it.
+fn report_all(agreed: &[u64; 30], total: &[u64; 30]) {
+    report(agreed, total);
+}
+
 fn main() {
     let mut agreed = [0u64; 30];
     let mut total = [0u64; 30];
     replay(&mut agreed, &mut total);
-    report(&agreed, &total);
+    report_all(&agreed, &total);
 }

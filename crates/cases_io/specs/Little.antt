@@ -11,11 +11,17 @@ use Rattle.zint.specs.Wrap.{wrap}
 unfoldable pub u16-at : List ℕ → ℕ → ℕ
 u16-at xs at = getD xs at 0 + getD xs (at + 1) 0 * 256
 
+unfoldable pub u32-at : List ℕ → ℕ → ℕ
+u32-at xs at = u16-at xs at + u16-at xs (at + 2) * 65536
+
+unfoldable pub u64-at : List ℕ → ℕ → ℕ
+u64-at xs at = u32-at xs at + u32-at xs (at + 4) * 4294967296
+
 unfoldable pub i16-at : List ℕ → ℕ → ℤ
 i16-at xs at = wrap w16 (pos (u16-at xs at))
 
 unfoldable pub i32-at : List ℕ → ℕ → ℤ
-i32-at xs at = wrap w32 (pos (u16-at xs at + u16-at xs (at + 2) * 65536))
+i32-at xs at = wrap w32 (pos (u32-at xs at))
 
 -- whether the first n of ys are f 0, f 1, .., f (n - 1)
 unfoldable pub agree : (ℕ → ℤ) → List ℤ → ℕ → Bool

@@ -12,7 +12,7 @@ use lib.ListN.{length, getD}
 use Rattle.zint.specs.Equal.{eqZ}
 use Rattle.zint.specs.EqualLaws.{eqZ-yes, eqZ-no}
 use Rattle.zint.specs.Wrap.{wrap, modZ}
-use Rattle.cases_io.specs.Little.{u16-at, i16-at, i32-at, agree}
+use Rattle.cases_io.specs.Little.{u16-at, u32-at, u64-at, i16-at, i32-at, agree}
 
 -- ---- past the end
 pub byte-past : (xs : List ℕ) (k : ℕ) → length xs ≤ k → getD xs k 0 ≡ 0
@@ -24,19 +24,25 @@ pub u16-past : (xs : List ℕ) (k : ℕ) → length xs ≤ k → u16-at xs k ≡
 unfolding u16-at
 u16-past xs k h = omega (arith, byte-past xs k h, byte-past xs (k + 1) (omega arith))
 
+pub u32-past : (xs : List ℕ) (k : ℕ) → length xs ≤ k → u32-at xs k ≡ 0
+unfolding u32-at
+u32-past xs k h = omega (arith, u16-past xs k h, u16-past xs (k + 2) (omega arith))
+
+pub u64-past : (xs : List ℕ) (k : ℕ) → length xs ≤ k → u64-at xs k ≡ 0
+unfolding u64-at
+u64-past xs k h = omega (arith, u32-past xs k h, u32-past xs (k + 4) (omega arith))
+
 pub i16-past : (xs : List ℕ) (k : ℕ) → length xs ≤ k → i16-at xs k ≡ pos 0
 unfolding i16-at wrap modZ
 i16-past xs k h = rw (u16-past xs k h)
 
 pub i32-past : (xs : List ℕ) (k : ℕ) → length xs ≤ k → i32-at xs k ≡ pos 0
 unfolding i32-at wrap modZ
-i32-past xs k h =
-    let l : length xs ≤ k + 2 = omega arith in
-    rw (u16-past xs k h, u16-past xs (k + 2) l)
+i32-past xs k h = rw (u32-past xs k h)
 
 -- a number at a place that is held to the end
-pub held : (F : ℕ → ℤ) (n : ℕ) → ((k : ℕ) → n ≤ k → F k ≡ pos 0) → (from at j : ℕ) → from ≡ min (at + 0) n → F (from + j) ≡ F (at + j)
-held F n past from at j e = go (decLt at n)
+pub held : {A : Type 0} (z : A) (F : ℕ → A) (n : ℕ) → ((k : ℕ) → n ≤ k → F k ≡ z) → (from at j : ℕ) → from ≡ min (at + 0) n → F (from + j) ≡ F (at + j)
+held z F n past from at j e = go (decLt at n)
   where
     go : Dec (at < n) → F (from + j) ≡ F (at + j)
     go (yes l) = ap F (omega arith)

@@ -1,11 +1,12 @@
-// What a program that replays a list of cases stands on: little-endian numbers of a byte slice, comparison with them, and the line that tells how many agree. No function here
-// has a `requires`: a byte past the end reads as 0.
+// What a program that replays a list of cases stands on: little-endian numbers of a byte slice, comparison with them, and the lines that tell how many agree. A byte past the
+// end reads as 0, and so no place is out of range. Only `count` and `report` have a `requires`: each kind has its place in both lists of counts.
 ghost use mathlib.Core.Path.{_≡_};
-ghost use Prim.Native.Nat.{ℕ, _+_, _*_, min};
+ghost use Prim.Native.Nat.{ℕ, _+_, _*_, _<_, min};
 ghost use lib.ListN.{length, getD};
 ghost use Rattle.lists.specs.Fill.{filled};
-ghost use Rattle.cases_io.specs.Little.{u16-at, i16-at, i32-at, agree};
+ghost use Rattle.cases_io.specs.Little.{u16-at, u32-at, u64-at, i16-at, i32-at, agree};
 use libc::STDOUT_FILENO;
+use pitch_settings::Settings;
 use std::num::wrapping_add_u64;
 use zint::abs_u32;
 use zint::as_i16;
@@ -39,6 +40,26 @@ pub fn u16_at(bytes: &[u8], at: usize) -> u16
     byte_at(bytes, at) as u16 + byte_at(bytes, at + 1) as u16 * 256
 }
 
+// The number of four bytes at `at`, without sign: a length or a count.
+pub fn u32_at(bytes: &[u8], at: usize) -> usize
+    ensures { λ r. ⌜ (r ≡ u32-at (now (bytes .entry)) at) × (r < 4294967296) ⌝ }
+{
+    if at >= bytes.len() {
+        return 0;
+    }
+    u16_at(bytes, at) as usize + u16_at(bytes, at + 2) as usize * 65536
+}
+
+// The number of eight bytes at `at`, without sign.
+pub fn usize_at(bytes: &[u8], at: usize) -> usize
+    ensures { λ r. ⌜ r ≡ u64-at (now (bytes .entry)) at ⌝ }
+{
+    if at >= bytes.len() {
+        return 0;
+    }
+    u32_at(bytes, at) + u32_at(bytes, at + 4) * 4294967296
+}
+
 pub fn i16_at(bytes: &[u8], at: usize) -> i16
     ensures { λ r. ⌜ r ≡ i16-at (now (bytes .entry)) at ⌝ }
 {
@@ -48,10 +69,7 @@ pub fn i16_at(bytes: &[u8], at: usize) -> i16
 pub fn i32_at(bytes: &[u8], at: usize) -> i32
     ensures { λ r. ⌜ r ≡ i32-at (now (bytes .entry)) at ⌝ }
 {
-    if at >= bytes.len() {
-        return 0;
-    }
-    low32(u16_at(bytes, at) as i64 + u16_at(bytes, at + 2) as i64 * 65536)
+    low32(u32_at(bytes, at) as i64)
 }
 
 // The place that is `by` bytes after `at`, or the end where that is nearer.
@@ -114,6 +132,32 @@ pub fn same_i32s(bytes: &[u8], at: usize, xs: &[i32]) -> bool
     true
 }
 
+// The settings at `at`: rate, subframes and complexity (8 bytes each), the two thresholds (4 bytes each).
+pub fn settings_at(bytes: &[u8], at: usize) -> Settings
+    ensures { λ r. ⌜ (r .rate ≡ u64-at (now (bytes .entry)) at)
+        × (r .nb ≡ u64-at (now (bytes .entry)) (at + 8))
+        × (r .complexity ≡ u64-at (now (bytes .entry)) (at + 16))
+        × (r .thres1 ≡ i32-at (now (bytes .entry)) (at + 24))
+        × (r .thres2 ≡ i32-at (now (bytes .entry)) (at + 28)) ⌝ }
+{
+    let from = skip(bytes, at, 0);
+    Settings {
+        rate: usize_at(bytes, from),
+        nb: usize_at(bytes, from + 8),
+        complexity: usize_at(bytes, from + 16),
+        thres1: i32_at(bytes, from + 24),
+        thres2: i32_at(bytes, from + 28),
+    }
+}
+
+pub fn same_settings(a: Settings, b: Settings) -> bool {
+    a.rate == b.rate
+        && a.nb == b.nb
+        && a.complexity == b.complexity
+        && a.thres1 == b.thres1
+        && a.thres2 == b.thres2
+}
+
 impl Tally {
     pub fn none() -> Tally {
         Tally {
@@ -147,6 +191,38 @@ impl Tally {
         io::print_decimal(STDOUT_FILENO, self.total);
         io::write_all(STDOUT_FILENO, b"\n");
     }
+}
+
+// One record more of this kind.
+pub fn count(agreed: &mut [u64], total: &mut [u64], kind: usize, agrees: bool)
+    requires { ⌜ (kind < length (now agreed)) × (kind < length (now total)) ⌝ }
+{
+    total[kind] = wrapping_add_u64(total[kind], 1);
+    if agrees {
+        agreed[kind] = wrapping_add_u64(agreed[kind], 1);
+    }
+}
+
+// A line for each kind, and one for all.
+pub fn report(agreed: &[u64], total: &[u64])
+    requires { ⌜ length (now agreed) ≡ length (now total) ⌝ }
+{
+    let mut all_agreed = 0;
+    let mut all = 0;
+    for kind in 0..total.len() {
+        io::write_all(STDOUT_FILENO, b"kind ");
+        io::print_decimal(STDOUT_FILENO, kind as u64);
+        Tally {
+            agreed: agreed[kind],
+            total: total[kind],
+        }.print(b":");
+        all_agreed = wrapping_add_u64(all_agreed, agreed[kind]);
+        all = wrapping_add_u64(all, total[kind]);
+    }
+    Tally {
+        agreed: all_agreed,
+        total: all,
+    }.print(b"all:");
 }
 
 // A number in decimal, with its sign where it is negative.

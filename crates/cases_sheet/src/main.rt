@@ -4,21 +4,24 @@
 // each) and m bytes. All are little-endian.
 // For a write, settings, frame count and table are handed over, and the m bytes are the sheet that the page must begin with. For a read, the m bytes are the page, and settings, frame
 // count and table must come out. A table's number i is number i modulo n of those in the record.
-ghost use Prim.Native.Nat.{_<_, _≤_};
+ghost use Prim.Native.Nat.{_≤_};
 ghost use lib.ListN.{length};
-use cases_io::Tally;
 use cases_io::byte_at;
+use cases_io::count;
 use cases_io::i32_at;
+use cases_io::report;
+use cases_io::same_settings;
+use cases_io::settings_at;
 use cases_io::skip;
 use cases_io::u16_at;
+use cases_io::u32_at;
+use cases_io::usize_at;
 use libc::STDIN_FILENO;
-use libc::STDOUT_FILENO;
 use pitch_settings::Settings;
 use pitch_sheet::Got;
 use pitch_sheet::Wrote;
 use pitch_sheet::read_sheet;
 use pitch_sheet::write_sheet;
-use std::num::wrapping_add_u64;
 
 struct Case {
     // 0 write, 1 read
@@ -119,14 +122,6 @@ fn page_agrees(body: &[u8], at: usize, new: usize, page: &[u8]) -> bool {
     new <= page.len()
 }
 
-fn same_settings(a: Settings, b: Settings) -> bool {
-    a.rate == b.rate
-        && a.nb == b.nb
-        && a.complexity == b.complexity
-        && a.thres1 == b.thres1
-        && a.thres2 == b.thres2
-}
-
 fn wrote_agrees(c: Case, answer: Wrote) -> bool {
     match answer {
         Wrote::Written(bytes) => c.number == 0 && bytes == c.bytes,
@@ -203,39 +198,16 @@ fn case_agrees(body: &[u8], c: Case) -> bool
     c.call == 1 && read_case(body, c)
 }
 
-// The number of eight bytes at `at`.
-fn usize_at(bytes: &[u8], at: usize) -> usize
-    requires { ⌜ at ≤ 1000 ⌝ }
-{
-    u16_at(bytes, at) as usize
-        + u16_at(bytes, at + 2) as usize * 65536
-        + u16_at(bytes, at + 4) as usize * 4294967296
-        + u16_at(bytes, at + 6) as usize * 281474976710656
-}
-
-// The number of four bytes at `at`.
-fn count_at(bytes: &[u8], at: usize) -> usize
-    requires { ⌜ at ≤ 1000 ⌝ }
-{
-    u16_at(bytes, at) as usize + u16_at(bytes, at + 2) as usize * 65536
-}
-
 fn case_of(head: &[u8]) -> Case {
     Case {
         call: byte_at(head, 1) as usize,
         number: u16_at(head, 2) as usize,
-        settings: Settings {
-            rate: usize_at(head, 4),
-            nb: usize_at(head, 12),
-            complexity: usize_at(head, 20),
-            thres1: i32_at(head, 28),
-            thres2: i32_at(head, 32),
-        },
+        settings: settings_at(head, 4),
         frames: usize_at(head, 36),
-        table: count_at(head, 44),
-        page: count_at(head, 48),
-        numbers: count_at(head, 52),
-        bytes: count_at(head, 56),
+        table: u32_at(head, 44),
+        page: u32_at(head, 48),
+        numbers: u32_at(head, 52),
+        bytes: u32_at(head, 56),
     }
 }
 
@@ -255,36 +227,6 @@ fn record_agrees(c: Case) -> bool {
     case_agrees(&body, c)
 }
 
-// A line for each kind, and one for all.
-fn report(agreed: &[u64; 20], total: &[u64; 20]) {
-    let mut all_agreed = 0;
-    let mut all = 0;
-    for kind in 0..20 {
-        io::write_all(STDOUT_FILENO, b"kind ");
-        io::print_decimal(STDOUT_FILENO, kind as u64);
-        Tally {
-            agreed: agreed[kind],
-            total: total[kind],
-        }.print(b":");
-        all_agreed = wrapping_add_u64(all_agreed, agreed[kind]);
-        all = wrapping_add_u64(all, total[kind]);
-    }
-    Tally {
-        agreed: all_agreed,
-        total: all,
-    }.print(b"all:");
-}
-
-// One record more of this kind.
-fn count(agreed: &mut [u64; 20], total: &mut [u64; 20], kind: usize, agrees: bool)
-    requires { ⌜ kind < 20 ⌝ }
-{
-    total[kind] = wrapping_add_u64(total[kind], 1);
-    if agrees {
-        agreed[kind] = wrapping_add_u64(agreed[kind], 1);
-    }
-}
-
 // Counts the records up to the first that is cut in its head or of an unknown kind, at most 1,000,000.
 fn replay(agreed: &mut [u64; 20], total: &mut [u64; 20]) {
     for _ in 0..1000000usize {
@@ -299,9 +241,14 @@ fn replay(agreed: &mut [u64; 20], total: &mut [u64; 20]) {
     }
 }
 
+// An array's length is known by its type, whatever was counted in it.
+fn report_all(agreed: &[u64; 20], total: &[u64; 20]) {
+    report(agreed, total);
+}
+
 fn main() {
     let mut agreed = [0u64; 20];
     let mut total = [0u64; 20];
     replay(&mut agreed, &mut total);
-    report(&agreed, &total);
+    report_all(&agreed, &total);
 }

@@ -136,15 +136,8 @@ fn replay(bytes: &[u8], group: usize, name: &[u8]) {
     tally.print(name);
 }
 
-// Room for the list. The `ensures` gives only the length, so that nothing unfolds the zeros.
-fn room() -> [u8; 524288]
-    ensures { λ r. ⌜ 524288 ≡ length r ⌝ }
-{
-    [0; 524288]
-}
-
 fn main() {
-    let mut bytes = room();
+    let mut bytes = cases_io::room();
     let n = io::read_full(0, &mut bytes);
     let list = &bytes[..n];
     replay(list, 0, b"silk_sum_sqr_shift");

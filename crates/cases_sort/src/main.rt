@@ -7,22 +7,14 @@ use cases_io::Tally;
 use cases_io::load_i16s;
 use cases_io::same_i16s;
 use cases_io::skip;
-use cases_io::u16_at;
+use cases_io::u32_at;
 use silk_sort::silk_insertion_sort_decreasing_int16;
-
-// An unsigned number of 4 bytes.
-fn number_at(bytes: &[u8], at: usize) -> usize
-    ensures { λ r. ⌜ r < 4294967296 ⌝ }
-{
-    let high = skip(bytes, at, 2);
-    u16_at(bytes, at) as usize + u16_at(bytes, high) as usize * 65536
-}
 
 // Whether idx are the numbers of 4 bytes each from `at` on.
 fn same_indices(bytes: &[u8], at: usize, idx: &[usize]) -> bool {
     let mut place = at;
     for i in 0..idx.len() {
-        if idx[i] != number_at(bytes, place) {
+        if idx[i] != u32_at(bytes, place) {
             return false;
         }
         place = skip(bytes, place, 4);
@@ -63,8 +55,8 @@ fn replay(bytes: &[u8]) {
     let mut tally = Tally::none();
     let mut at = 0;
     while at < bytes.len() {
-        let l = number_at(bytes, at);
-        let k = number_at(bytes, skip(bytes, at, 4));
+        let l = u32_at(bytes, at);
+        let k = u32_at(bytes, skip(bytes, at, 4));
         tally = tally.counted(agrees(bytes, at, l, k));
         at = next(bytes, at, l, k);
     }

@@ -8,17 +8,19 @@ ghost use mathlib.Core.Path.{_≡_};
 ghost use Prim.Native.Nat.{_<_, _≤_};
 ghost use lib.ListN.{length};
 use crate::least;
-use crate::sample_room;
-use crate::u32_at;
-use crate::usize_at;
 use cases_io::byte_at;
 use cases_io::i32_at;
 use cases_io::load_i16s;
 use cases_io::same_i16s;
+use cases_io::same_settings;
+use cases_io::settings_at;
 use cases_io::skip;
+use cases_io::u32_at;
+use cases_io::usize_at;
 use pitch_settings::Settings;
 use pitch_track::Answer;
 use pitch_track::Track;
+use recording_io::sample_room;
 use zint::wrapping_sub_i32;
 
 // What the places of a state hold that are not listed.
@@ -55,21 +57,7 @@ fn lists_of(body: &[u8]) -> Lists {
 }
 
 fn settings_of(body: &[u8]) -> Settings {
-    Settings {
-        rate: usize_at(body, 2),
-        nb: usize_at(body, 10),
-        complexity: usize_at(body, 18),
-        thres1: i32_at(body, 26),
-        thres2: i32_at(body, 30),
-    }
-}
-
-fn settings_agree(body: &[u8], s: Settings) -> bool {
-    s.rate == usize_at(body, 2)
-        && s.nb == usize_at(body, 10)
-        && s.complexity == usize_at(body, 18)
-        && s.thres1 == i32_at(body, 26)
-        && s.thres2 == i32_at(body, 30)
+    settings_at(body, 2)
 }
 
 // The state that the body hands in.
@@ -157,7 +145,7 @@ fn end_agrees(body: &[u8], at: usize, t: Track) -> bool {
     let s = t.settings;
     t.lag == i32_at(body, 82)
         && t.correlation == i32_at(body, 86)
-        && settings_agree(body, s)
+        && same_settings(s, settings_of(body))
         && places_agree(body, at, t)
 }
 

@@ -3,18 +3,13 @@ ghost use mathlib.Core.Path.{_≡_};
 ghost use Prim.Native.Nat.{_<_, _≤_};
 ghost use lib.ListN.{length};
 use crate::least;
-use crate::sample_room;
-use crate::u32_at;
+use cases_io::u32_at;
 use check::same;
+use recording_io::sample_room;
+use recording_io::table_room;
 use track_text::track_text;
 
-// Room for the rows and the text of the longest track. The `ensures` of these gives only the length, so that nothing unfolds the zeros.
-fn table_room() -> [i32; 8192]
-    ensures { λ r. ⌜ 8192 ≡ length r ⌝ }
-{
-    [0; 8192]
-}
-
+// Room for the text of the longest track. The `ensures` gives only the length, so that nothing unfolds the zeros.
 fn text_room() -> [u8; 99350]
     ensures { λ r. ⌜ 99350 ≡ length r ⌝ }
 {

@@ -2,7 +2,7 @@
 use mathlib.Core.Path.{_≡_, ap, _∙_}
 use Prim.Native.Nat.{ℕ, _+_, _*_, _≤_, _-_}
 use native.Mathlib.Omega.{arith}
-use lib.IntN.{ℤ}
+use lib.IntN.{ℤ, pos}
 use lib.ListN.{length, length-set}
 use mir.Syntax.{w32}
 use Rattle.zint.specs.Read.{r-got}
@@ -53,7 +53,7 @@ loop-again c =
     let k = s .before .skip in
     let a = s .before .before .before .args in
     let F : ℕ → ℤ = i32-at (a .bytes .now) in
-    let h = held F (length (a .bytes .now)) (i32-past (a .bytes .now)) (k .result) (a .at) (4 * s .loop .i) (k .ensures) in
+    let h = held (pos 0) F (length (a .bytes .now)) (i32-past (a .bytes .now)) (k .result) (a .at) (4 * s .loop .i) (k .ensures) in
     let v = r-got w32 (c .i32-at .ok) (c .i32-at .ensures ∙ h) .val in (
       omega arith,
       (

@@ -27,7 +27,7 @@ module _ (c : tie.After-i16-at Inv-loop μ-loop) where
       let s = c .before .before .before in
       let k = s .before .skip in
       let a = s .before .before .before .args in
-      c .i16-at .ensures ∙ held (i16-at (a .bytes .now)) (length (a .bytes .now)) (i16-past (a .bytes .now)) (k .result) (a .at) (2 * s .loop .i) (k .ensures)
+      c .i16-at .ensures ∙ held (pos 0) (i16-at (a .bytes .now)) (length (a .bytes .now)) (i16-past (a .bytes .now)) (k .result) (a .at) (2 * s .loop .i) (k .ensures)
 
 skip-requires : tie.Need-skip-requires Inv-loop μ-loop
 skip-requires c κs = search zneeds

@@ -27,7 +27,7 @@ module _ (c : tie.After-i32-at Inv-loop μ-loop) where
       let s = c .before .before .before in
       let k = s .before .skip in
       let a = s .before .before .before .args in
-      c .i32-at .ensures ∙ held (i32-at (a .bytes .now)) (length (a .bytes .now)) (i32-past (a .bytes .now)) (k .result) (a .at) (4 * s .loop .i) (k .ensures)
+      c .i32-at .ensures ∙ held (pos 0) (i32-at (a .bytes .now)) (length (a .bytes .now)) (i32-past (a .bytes .now)) (k .result) (a .at) (4 * s .loop .i) (k .ensures)
 
 skip-requires : tie.Need-skip-requires Inv-loop μ-loop
 skip-requires c κs = search zneeds

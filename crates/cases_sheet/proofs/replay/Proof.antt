@@ -1,6 +1,8 @@
 -- `cases_sheet::replay` meets its contract. The invariant: the count of records is at most 1,000,000. Assumes nothing.
 use Prim.Native.Nat.{_≤_, _-_}
+use native.Mathlib.Omega.{arith}
 use borrow.Author.Needs.{needs}
+use borrow.Author.Tests.{ltb-false}
 use Rattle.cases_sheet.proofs.replay.Statement.{statement}
 use Rattle.cases_sheet.proofs.replay.Tie as tie
 
@@ -41,7 +43,7 @@ record-agrees-requires : tie.Need-record-agrees-requires Inv-loop μ-loop
 record-agrees-requires c κs = search needs
 
 count-requires : tie.Need-count-requires Inv-loop μ-loop
-count-requires c κs = search needs
+count-requires c κs = (omega (arith, ltb-false), omega (arith, ltb-false))
 
 add-counter : tie.Need-add-counter Inv-loop μ-loop
 add-counter c = search needs

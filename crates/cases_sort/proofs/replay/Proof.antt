@@ -17,14 +17,14 @@ none-requires c κs = search needs
 loop-holds : tie.Need-loop-holds Inv-loop μ-loop
 loop-holds c = search needs
 
-number-at-requires : tie.Need-number-at-requires Inv-loop μ-loop
-number-at-requires c κs = search needs
+u32-at-requires : tie.Need-u32-at-requires Inv-loop μ-loop
+u32-at-requires c κs = search needs
 
 skip-requires : tie.Need-skip-requires Inv-loop μ-loop
 skip-requires c κs = search needs
 
-number-at-requires-2 : tie.Need-number-at-requires-2 Inv-loop μ-loop
-number-at-requires-2 c κs = search needs
+u32-at-requires-2 : tie.Need-u32-at-requires-2 Inv-loop μ-loop
+u32-at-requires-2 c κs = search needs
 
 agrees-requires : tie.Need-agrees-requires Inv-loop μ-loop
 agrees-requires c κs = search needs
@@ -58,9 +58,9 @@ replay-spec =
     μ-loop
     none-requires
     loop-holds
-    number-at-requires
+    u32-at-requires
     skip-requires
-    number-at-requires-2
+    u32-at-requires-2
     agrees-requires
     counted-requires
     next-requires

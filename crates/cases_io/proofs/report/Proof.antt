@@ -1,15 +1,15 @@
--- `cases_frames::report` meets its contract. The invariant: the kind is at most 30. Assumes nothing.
+-- `cases_io::report` meets its contract. The invariant: the kind is within the counts. Assumes nothing.
 use Prim.Native.Nat.{_≤_, _-_}
-use Prim.Native.Nat.{_≤_, _-_}
+use lib.ListN.{length}
 use borrow.Author.Needs.{needs}
-use Rattle.cases_frames.proofs.report.Statement.{statement}
-use Rattle.cases_frames.proofs.report.Tie as tie
+use Rattle.cases_io.proofs.report.Statement.{statement}
+use Rattle.cases_io.proofs.report.Tie as tie
 
 abbrev Inv-loop : tie.InvT-loop
-Inv-loop agreed total all-agreed₀ all₀ kind₀ t6 t7 t8 all-agreed all kind = kind ≤ 30
+Inv-loop agreed total all-agreed₀ all₀ kind₀ t6 t7 t8 kind-end all-agreed all kind = kind ≤ length total
 
 abbrev μ-loop : tie.MeasureT-loop
-μ-loop agreed total all-agreed₀ all₀ kind₀ t6 t7 t8 all-agreed all kind = 30 - kind
+μ-loop agreed total all-agreed₀ all₀ kind₀ t6 t7 t8 kind-end all-agreed all kind = length total - kind
 
 loop-holds : tie.Need-loop-holds Inv-loop μ-loop
 loop-holds c = search needs
@@ -26,14 +26,15 @@ print-decimal-requires c κs = search needs
 mul-wrapping-add-u64 : tie.Need-mul-wrapping-add-u64 Inv-loop μ-loop
 mul-wrapping-add-u64 c = search needs
 
-element-copy-out-wrapping-add-u64 : tie.Need-element-copy-out-wrapping-add-u64 Inv-loop μ-loop
-element-copy-out-wrapping-add-u64 c = search needs
+shared-slice-read-wrapping-add-u64 : tie.Need-shared-slice-read-wrapping-add-u64 Inv-loop μ-loop
+shared-slice-read-wrapping-add-u64 c = search needs
 
 mul-wrapping-add-u64-2 : tie.Need-mul-wrapping-add-u64-2 Inv-loop μ-loop
 mul-wrapping-add-u64-2 c = search needs
 
-element-copy-out-wrapping-add-u64-2 : tie.Need-element-copy-out-wrapping-add-u64-2 Inv-loop μ-loop
-element-copy-out-wrapping-add-u64-2 c = search needs
+shared-slice-read-wrapping-add-u64-2 :
+    tie.Need-shared-slice-read-wrapping-add-u64-2 Inv-loop μ-loop
+shared-slice-read-wrapping-add-u64-2 c = search needs
 
 slice-aggregate-print : tie.Need-slice-aggregate-print Inv-loop μ-loop
 slice-aggregate-print c = search needs
@@ -44,8 +45,9 @@ print-requires c κs = search needs
 mul-wrapping-add-u64-3 : tie.Need-mul-wrapping-add-u64-3 Inv-loop μ-loop
 mul-wrapping-add-u64-3 c = search needs
 
-element-copy-out-wrapping-add-u64-3 : tie.Need-element-copy-out-wrapping-add-u64-3 Inv-loop μ-loop
-element-copy-out-wrapping-add-u64-3 c = search needs
+shared-slice-read-wrapping-add-u64-3 :
+    tie.Need-shared-slice-read-wrapping-add-u64-3 Inv-loop μ-loop
+shared-slice-read-wrapping-add-u64-3 c = search needs
 
 wrapping-add-u64-requires : tie.Need-wrapping-add-u64-requires Inv-loop μ-loop
 wrapping-add-u64-requires c κs = search needs
@@ -53,8 +55,9 @@ wrapping-add-u64-requires c κs = search needs
 mul-wrapping-add-u64-4 : tie.Need-mul-wrapping-add-u64-4 Inv-loop μ-loop
 mul-wrapping-add-u64-4 c = search needs
 
-element-copy-out-wrapping-add-u64-4 : tie.Need-element-copy-out-wrapping-add-u64-4 Inv-loop μ-loop
-element-copy-out-wrapping-add-u64-4 c = search needs
+shared-slice-read-wrapping-add-u64-4 :
+    tie.Need-shared-slice-read-wrapping-add-u64-4 Inv-loop μ-loop
+shared-slice-read-wrapping-add-u64-4 c = search needs
 
 wrapping-add-u64-requires-2 : tie.Need-wrapping-add-u64-requires-2 Inv-loop μ-loop
 wrapping-add-u64-requires-2 c κs = search needs
@@ -88,16 +91,16 @@ report-spec =
     write-all-requires
     print-decimal-requires
     mul-wrapping-add-u64
-    element-copy-out-wrapping-add-u64
+    shared-slice-read-wrapping-add-u64
     mul-wrapping-add-u64-2
-    element-copy-out-wrapping-add-u64-2
+    shared-slice-read-wrapping-add-u64-2
     slice-aggregate-print
     print-requires
     mul-wrapping-add-u64-3
-    element-copy-out-wrapping-add-u64-3
+    shared-slice-read-wrapping-add-u64-3
     wrapping-add-u64-requires
     mul-wrapping-add-u64-4
-    element-copy-out-wrapping-add-u64-4
+    shared-slice-read-wrapping-add-u64-4
     wrapping-add-u64-requires-2
     add-kind
     loop-less
