@@ -1,6 +1,7 @@
 -- `pitch_settings::settings_no` meets its contract: the tests say which case of `settings-no` holds. Assumes nothing.
 use mathlib.Core.Path.{_≡_, sym, _∙_}
 use mathlib.Core.Bool.{true}
+use native.Mathlib.Omega.{arith}
 use borrow.Author.Needs.{needs}
 use borrow.Author.Tests.{le-leb, lt-leb}
 use Rattle.pitch_settings.specs.Settings.{rate-known, subframes-known, settings-no}
@@ -21,11 +22,11 @@ subframes-known-requires c κs = search needs
 
 returns : tie.Need-returns
 unfolding settings-no
-returns c = rw (rate-is (c .before .before .before .before), few-is (c .before .before), le-leb _ _ (c .if3 .taken))
+returns c = rw (rate-is (c .before .before .before .before), few-is (c .before .before), le-leb (c .before .before .before .before .before .before .args .s .complexity) 2 (omega (arith, c .if3 .taken)))
 
 returns-2 : tie.Need-returns-2
 unfolding settings-no
-returns-2 c = rw (rate-is (c .before .before .before .before), few-is (c .before .before), lt-leb _ _ (c .if3 .left))
+returns-2 c = rw (rate-is (c .before .before .before .before), few-is (c .before .before), lt-leb (c .before .before .before .before .before .before .args .s .complexity) 2 (omega (arith, c .if3 .left)))
 
 returns-3 : tie.Need-returns-3
 unfolding settings-no
