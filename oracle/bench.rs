@@ -12,7 +12,7 @@ mod signals;
 mod silk;
 
 use command::number;
-use frame::{Frame, Row, Settings, analyse};
+use frame::{Frame, Row, Settings, analyse, call};
 use kinds::{all_settings, plain, voiced};
 use random::Random;
 use signals::noise;
@@ -73,23 +73,9 @@ fn ours(f: &Frame) -> Row {
 /// A frame without a zero divisor, at which the original stops.
 #[inline(never)]
 fn original(f: &Frame) -> Row {
-    let s = f.settings;
-    let mut lags = [0i32; 4];
-    let (mut index, mut contour, mut correlation) = (0i16, 0i8, f.prev_corr);
-    let verdict = silk_pitch_analysis_core(
-        &f.x,
-        &mut lags,
-        &mut index,
-        &mut contour,
-        &mut correlation,
-        f.prev_lag,
-        s.thres1,
-        s.thres2,
-        s.rate as i32,
-        s.complexity,
-        s.nb,
-    );
-    [verdict, index as i32, contour as i32, correlation, lags[0], lags[1], lags[2], lags[3]]
+    let said = call(silk_pitch_analysis_core, f);
+    let [a, b, c, d] = said.lags;
+    [said.verdict, said.index as i32, said.contour as i32, said.correlation, a, b, c, d]
 }
 
 const FRAMES: usize = 32;

@@ -95,36 +95,49 @@ pub fn unless_zero_divisor<T>(f: impl FnOnce() -> T) -> Option<T> {
 pub type Core =
     fn(&[i16], &mut [i32], &mut i16, &mut i8, &mut i32, i32, i32, i32, i32, usize, usize) -> i32;
 
+/// What a call of the original says and leaves: its answer, lag index, contour,
+/// correlation and lags.
+pub struct Said {
+    pub verdict: i32,
+    pub index: i16,
+    pub contour: i8,
+    pub correlation: i32,
+    pub lags: [i32; 4],
+}
+
+/// The call itself; it panics at a zero divisor.
+#[inline(always)]
+pub fn call(core: Core, f: &Frame) -> Said {
+    let s = f.settings;
+    let mut lags = [0i32; 4];
+    let (mut index, mut contour, mut correlation) = (0i16, 0i8, f.prev_corr);
+    let verdict = core(
+        &f.x,
+        &mut lags,
+        &mut index,
+        &mut contour,
+        &mut correlation,
+        f.prev_lag,
+        s.thres1,
+        s.thres2,
+        s.rate as i32,
+        s.complexity,
+        s.nb,
+    );
+    Said { verdict, index, contour, correlation, lags }
+}
+
 pub fn analyse_by(core: Core, f: &Frame) -> Row {
     let s = f.settings;
     assert_eq!(f.x.len(), s.samples());
-    let mut lags = [0i32; 4];
-    let mut index = 0i16;
-    let mut contour = 0i8;
-    let mut corr = f.prev_corr;
-    let said = unless_zero_divisor(|| {
-        core(
-            &f.x,
-            &mut lags,
-            &mut index,
-            &mut contour,
-            &mut corr,
-            f.prev_lag,
-            s.thres1,
-            s.thres2,
-            s.rate as i32,
-            s.complexity,
-            s.nb,
-        )
-    });
-    match said {
-        Some(0) => {
-            let [a, b, c, d] = lags;
+    match unless_zero_divisor(|| call(core, f)) {
+        Some(Said { verdict: 0, index, contour, correlation, lags: [a, b, c, d] }) => {
             assert!(s.nb == 4 || (c == 0 && d == 0));
-            [0, index as i32, contour as i32, corr, a, b, c, d]
+            [0, index as i32, contour as i32, correlation, a, b, c, d]
         }
-        Some(_) => {
-            assert!(index == 0 && contour == 0 && corr == 0 && lags == [0; 4]);
+        Some(said) => {
+            assert!(said.index == 0 && said.contour == 0);
+            assert!(said.correlation == 0 && said.lags == [0; 4]);
             [1, 0, 0, 0, 0, 0, 0, 0]
         }
         None => [2, 0, 0, 0, 0, 0, 0, 0],
