@@ -1,0 +1,1 @@
+// Answers in numbers: what the promises of calls that answer an enum share. No code.
