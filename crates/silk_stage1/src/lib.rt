@@ -1,15 +1,17 @@
 // Stage 1 of the pitch analyser: the lags at 4 kHz that go on to stage 2.
 ghost use mathlib.Core.Path.{_≡_};
+ghost use mathlib.Core.List.{[]};
 ghost use mathlib.Core.Logic.{_⊎_};
 ghost use Prim.Native.Nat.{ℕ, _+_, _-_, _*_, _<_, _≤_};
 ghost use lib.IntN.{_+ℤ_, _-ℤ_, _*ℤ_};
 ghost use lib.ListN.{length, getD, drop, replicate};
 ghost use mir.Syntax.{w32};
+ghost use Rattle.answers.specs.Answer.{answer-numbers};
 ghost use Rattle.zint.specs.Wrap.{wrap};
 ghost use Rattle.lists.specs.Signal.{sample};
 ghost use Rattle.lists.specs.Fill.{table, filled};
 ghost use Rattle.silk_sigproc.specs.Dot.{dot};
-ghost use Rattle.silk_stage1.specs.Stage1.{cross1, norm1, biased1, looked, stopped, stage1, Handed1};
+ghost use Rattle.silk_stage1.specs.Stage1.{cross1, norm1, biased1, looked, stopped, stage1, screen-numbers, screen-number, Handed1};
 ghost use Rattle.silk_stage1.specs.ScoreLaws.{Divided, HalfFrame, Scored};
 ghost use Rattle.silk_stage1.specs.KeptLaws.{run, selected};
 use silk_macros::Quotient;
@@ -255,6 +257,7 @@ pub fn silk_stage1(
 ) -> Stage1
     requires { ⌜ Handed1 (now «frame_4khz») «nb_subfr» complexity ⌝ }
     ensures { λ r. ⌜ r ≡ stage1 (now («frame_4khz» .entry)) «nb_subfr» complexity «search_thres1_q16» ⌝ }
+    ensures { λ r. ⌜ screen-numbers (r .screen) ≡ answer-numbers (screen-number (now («frame_4khz» .entry)) «nb_subfr») [] ⌝ }
 {
     let mut c_combined = [0i16; CSTRIDE_4KHZ];
     if scores(frame_4khz, nb_subfr, &mut c_combined) {

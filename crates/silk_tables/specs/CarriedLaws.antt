@@ -1,7 +1,8 @@
 -- What accepted settings and a carried pair say, the two tests from such facts, and the answer by its tests.
 -- Assumes nothing.
-use mathlib.Core.Path.{_≡_, ap, ap₂, subst}
-use mathlib.Core.Bool.{Bool, true, _&&_, _||_, cond}
+use mathlib.Core.Path.{_≡_, refl, ap, ap₂, subst}
+use mathlib.Core.List.{[], _∷_}
+use mathlib.Core.Bool.{Bool, true, false, _&&_, _||_, cond}
 use mathlib.Core.Logic.{_⊎_, inl, inr, ⊎-elim}
 use Prim.Native.Nat.{ℕ, _≤_, _<_}
 use native.Mathlib.Omega.{arith}
@@ -9,12 +10,13 @@ use lib.Dec.{eqb, ltb, leb}
 use borrow.Author.Tests.{eqb-true, leb-true, le-leb, lt-ltb}
 use lib.IntN.{ℤ, pos, natAbs}
 use lib.Signed.{leZ, ltZ, _≤ℤ_, _<ℤ_}
+use Rattle.answers.specs.Answer.{answer-numbers}
 use Rattle.zint.specs.Tests.{le-true, lt-true}
 use Rattle.zint.specs.Order.{le-yes, lt-yes}
 use Rattle.zint.specs.Shift.{nonneg-abs}
 use Rattle.zint.specs.Diff.{le-of, lt-of, of-lt, zarith}
 use Rattle.silk_tables.specs.Tables.{Settings, contours, greatest-index}
-use Rattle.silk_tables.specs.Rebuild.{rebuilt, Coded, accepted, carried, rebuiltOf}
+use Rattle.silk_tables.specs.Rebuild.{rebuilt, Coded, accepted, carried, rebuiltOf, rebuilt-numbers, rebuilt-number}
 use Rattle.zint.specs.BoolLaws.{and-left, and-right, or-cases}
 use Rattle.silk_tables.specs.TableLaws.{settings-of}
 use Rattle.silk_tables.specs.ContourLaws.{greatest-le, contours-le}
@@ -148,3 +150,12 @@ module _ (fs nb cx : ℕ) (index contour : ℤ) (k : ℕ) where
 
   pub answer-lag : Accepted fs nb cx → k < nb → Carried fs nb cx index contour → rebuiltOf fs nb cx index contour k ≡ lag
   answer-lag a h p = answer-by (accepted-yes a) (lt-ltb k nb h) (carried-yes p)
+
+  -- the answer in numbers
+  pub rebuilt-in-numbers : rebuilt-numbers (rebuiltOf fs nb cx index contour k) ≡ answer-numbers (rebuilt-number fs nb cx index contour k) (rebuilt fs nb index (natAbs contour) k ∷ [])
+  unfolding rebuiltOf rebuilt-number
+  rebuilt-in-numbers = by (accepted fs nb cx && ltb k nb && carried fs nb cx index contour)
+    where
+      by : (t : Bool) → rebuilt-numbers (cond t lag NotCarried) ≡ answer-numbers (cond t 0 9) (rebuilt fs nb index (natAbs contour) k ∷ [])
+      by true = refl
+      by false = refl

@@ -2,7 +2,7 @@
 -- count and k a subframe. Definitions only; the laws are in `RebuildLaws`.
 use mathlib.Core.Path.{_≡_}
 use mathlib.Core.Bool.{Bool, _&&_, _||_, cond}
-use mathlib.Core.List.{List}
+use mathlib.Core.List.{List, [], _∷_}
 use mathlib.Core.Logic.{_⊎_}
 use Prim.Native.Nat.{ℕ, _*_, _≤_, _<_}
 use lib.Dec.{eqb, ltb, leb}
@@ -65,3 +65,11 @@ carried fs nb cx index contour =
 unfoldable pub rebuiltOf : ℕ → ℕ → ℕ → ℤ → ℤ → ℕ → Rebuilt
 rebuiltOf fs nb cx index contour k =
     cond (accepted fs nb cx && ltb k nb && carried fs nb cx index contour) (Lag (rebuilt fs nb index (natAbs contour) k)) NotCarried
+
+-- the answer in document 01's numbers: 0 and the lag, or 9 (malformed) for numbers that are no pair of a frame; and which of the two comes
+abbrev pub rebuilt-numbers : Rebuilt → List ℤ
+rebuilt-numbers (Lag l) = pos 0 ∷ l ∷ []
+rebuilt-numbers NotCarried = pos 9 ∷ []
+
+unfoldable pub rebuilt-number : ℕ → ℕ → ℕ → ℤ → ℤ → ℕ → ℕ
+rebuilt-number fs nb cx index contour k = cond (accepted fs nb cx && ltb k nb && carried fs nb cx index contour) 0 9

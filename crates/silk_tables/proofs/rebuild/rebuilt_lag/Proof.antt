@@ -1,19 +1,28 @@
 -- `silk_tables::rebuild::rebuilt_lag` meets its contract: each refusal is one test of the definition, and past them the pair has an entry in a book. Assumes nothing.
 use mathlib.Core.Path.{_≡_, refl, sym, ap, ap₂, _∙_, subst}
 use mathlib.Core.Bool.{true}
+use mathlib.Core.List.{[], _∷_}
+use Prim.Native.Nat.{ℕ}
 use native.Mathlib.Omega.{arith}
 use borrow.Author.Tests.{not-true, not-false, lt-ltb, le-ltb}
 use lib.IntN.{ℤ, natAbs}
 use mir.Syntax.{w32, w64}
 use mir.Val.{toZ, ofZ}
+use Rattle.answers.specs.Answer.{answer-numbers}
 use Rattle.zint.specs.Bound.{fits-abs}
 use Rattle.zint.specs.Read.{r-var, r-got, as-unsigned}
-use Rattle.silk_tables.specs.Rebuild.{rebuilt, Coded, accepted, carried}
-use Rattle.silk_tables.specs.CarriedLaws.{Carried, accepted-means, carried-means, contour-abs, coded, answer-by, answer-lag}
+use Rattle.silk_tables.specs.Rebuild.{rebuilt, Coded, accepted, carried, rebuiltOf, rebuilt-numbers, rebuilt-number}
+use Rattle.silk_tables.specs.CarriedLaws.{Carried, accepted-means, carried-means, contour-abs, coded, answer-by, answer-lag, rebuilt-in-numbers}
+use Rattle.silk_tables.specs.declared.rebuild.Rebuilt.{Rebuilt}
 use Rattle.silk_tables.specs.declared.rebuild.Rebuilt.the-variants.{Lag}
 use borrow.Author.Needs.{needs}
 use Rattle.silk_tables.proofs.rebuild.rebuilt_lag.Statement.{statement}
 use Rattle.silk_tables.proofs.rebuild.rebuilt_lag.Tie as tie
+
+-- the answer, and so the answer in numbers
+in-both : {x : Rebuilt} (fs nb cx : ℕ) (index contour : ℤ) (k : ℕ) → x ≡ rebuiltOf fs nb cx index contour k
+    → (x ≡ rebuiltOf fs nb cx index contour k) × (rebuilt-numbers x ≡ answer-numbers (rebuilt-number fs nb cx index contour k) (rebuilt fs nb index (natAbs contour) k ∷ []))
+in-both fs nb cx index contour k e = (e, ap rebuilt-numbers e ∙ rebuilt-in-numbers fs nb cx index contour k)
 
 settings-accepted-requires : tie.Need-settings-accepted-requires
 settings-accepted-requires c κs = search needs
@@ -35,12 +44,12 @@ returns : tie.Need-returns
 returns c =
     let r = c .before .settings-accepted in
     let a = c .before .before .args in
-    sym (answer-by (a .fs-khz) (a .nb-subfr) (a .complexity) (a .lag-index) (a .contour-index) (a .k) (sym (r .ensures) ∙ not-true (r .result) (c .if1 .taken)) refl refl)
+    in-both (a .fs-khz) (a .nb-subfr) (a .complexity) (a .lag-index) (a .contour-index) (a .k) (sym (answer-by (a .fs-khz) (a .nb-subfr) (a .complexity) (a .lag-index) (a .contour-index) (a .k) (sym (r .ensures) ∙ not-true (r .result) (c .if1 .taken)) refl refl))
 
 returns-2 : tie.Need-returns-2
 returns-2 c =
     let a = c .before .before .before .args in
-    sym (answer-by (a .fs-khz) (a .nb-subfr) (a .complexity) (a .lag-index) (a .contour-index) (a .k) (settled (c .before)) (le-ltb (a .k) (a .nb-subfr) (c .if2 .taken)) refl)
+    in-both (a .fs-khz) (a .nb-subfr) (a .complexity) (a .lag-index) (a .contour-index) (a .k) (sym (answer-by (a .fs-khz) (a .nb-subfr) (a .complexity) (a .lag-index) (a .contour-index) (a .k) (settled (c .before)) (le-ltb (a .k) (a .nb-subfr) (c .if2 .taken)) refl))
 
 pair-carried-requires : tie.Need-pair-carried-requires
 pair-carried-requires c κs = accepted-means (settled (c .before)) .settings .complexity
@@ -49,7 +58,7 @@ returns-3 : tie.Need-returns-3
 returns-3 c =
     let q = c .before .before in
     let a = q .before .before .before .args in
-    sym (answer-by (a .fs-khz) (a .nb-subfr) (a .complexity) (a .lag-index) (a .contour-index) (a .k) (settled (q .before)) (lt-ltb (a .k) (a .nb-subfr) (q .if2 .left)) (sym (asked (c .before)) ∙ not-true (c .before .pair-carried .result) (c .if3 .taken)))
+    in-both (a .fs-khz) (a .nb-subfr) (a .complexity) (a .lag-index) (a .contour-index) (a .k) (sym (answer-by (a .fs-khz) (a .nb-subfr) (a .complexity) (a .lag-index) (a .contour-index) (a .k) (settled (q .before)) (lt-ltb (a .k) (a .nb-subfr) (q .if2 .left)) (sym (asked (c .before)) ∙ not-true (c .before .pair-carried .result) (c .if3 .taken))))
 
 cast-lag-of : tie.Need-cast-lag-of
 cast-lag-of c =
@@ -72,8 +81,10 @@ returns-4 c =
     let s = q .before .before .before in
     let a = s .args in
     let v = r-got w32 (c .lag-of .ok) (c .lag-of .ensures) .val in
+    in-both (a .fs-khz) (a .nb-subfr) (a .complexity) (a .lag-index) (a .contour-index) (a .k) (
     ap Lag (v ∙ ap₂ (λ (x y : ℤ). rebuilt (a .fs-khz) (a .nb-subfr) x (natAbs y) (a .k)) (r-var (s .fits .lag-index) .val) (r-var (s .fits .contour-index) .val))
     ∙ sym (answer-lag (a .fs-khz) (a .nb-subfr) (a .complexity) (a .lag-index) (a .contour-index) (a .k) (accepted-means (settled (q .before))) (q .if2 .left) (pair (c .before)))
+    )
 
 pub rebuilt-lag-spec : {M : Type 1} → statement M
 rebuilt-lag-spec =
