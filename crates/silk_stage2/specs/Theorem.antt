@@ -1,6 +1,5 @@
--- What stage 2's answer is, in words: a zero divisor exactly where a divisor that is reached is zero; else unvoiced exactly where no lag passes; else the passing lag that
--- scores at least as high as every other and higher than every lower one, with its first contour of greatest sum. `stage2-means` is the theorem, and `stage2-only` says
--- that no other answer has that meaning.
+-- Stage 2's answer has the meaning that `Meaning` gives it in words (`stage2-means`), and no other answer has (`stage2-only`): so each answer is given exactly where its words
+-- hold (`stage2-exactly`). With it the winner's range, and that of the lag that stage 3 starts from.
 -- Assumes nothing.
 use mathlib.Core.Path.{_≡_, refl, sym, ap, ap₂, _∙_, subst}
 use mathlib.Core.Bool.{Bool, true, false, _&&_, cond, false≢true}
@@ -11,7 +10,8 @@ use native.Mathlib.Decide.{decLt}
 use native.Mathlib.Omega.{arith}
 use lib.IntN.{ℤ, pos, _*ℤ_}
 use lib.Signed.{ltZ, quotZ, _≤ℤ_, _<ℤ_, clashℤ}
-use Rattle.zint.specs.Equal.{eqZ}
+use Rattle.silk_macros.specs.Divide.{by-zero}
+use Rattle.silk_macros.specs.DivideLaws.{by-zero-is}
 use Rattle.zint.specs.EqualLaws.{eqZ-yes, eqZ-true}
 use Rattle.zint.specs.Order.{lt-yes}
 use Rattle.zint.specs.Tests.{lt-true}
@@ -22,59 +22,13 @@ use Rattle.best.specs.Best as Best
 use Rattle.best.specs.Best.{some, Place, none, at, BestOf}
 use Rattle.best.specs.BestLaws.{some-find, some-none, best-outcome, Outcome}
 use Rattle.stage2_correlations.specs.Marks.{listed, measured}
-use Rattle.stage2_correlations.specs.MarkFacts.{Listed, Measured, listed-means, measured-means}
-use Rattle.stage2_correlations.specs.Correlations.{cross, divisor, by-zero, correlation, zero-reached}
+use Rattle.stage2_correlations.specs.MarkFacts.{listed-means, measured-means}
+use Rattle.stage2_correlations.specs.Correlations.{cross, divisor, quotient2, correlation, zero-reached}
 use Rattle.silk_stage2.specs.declared.Stage2.{Stage2}
 use Rattle.silk_stage2.specs.declared.Stage2.the-variants.{ZeroDivisor, Unvoiced, Winner}
 use Rattle.silk_stage2.specs.Scores.{contour-sum, place-no, best-contour, lag-sum, threshold, passes, prev-8khz, score}
 use Rattle.silk_stage2.specs.Stage2.{winner, won, picked, zero2, stage2}
-
--- ---- the words
-
--- a divisor is reached, and it is zero: a lag that is measured, and a positive cross-correlation
-pub record ZeroReached (e : List ℤ) (kept : List ℕ) (nb k d : ℕ) : Type 0 where
-  pub subframe : k < nb
-  pub measures : Measured kept d
-  pub positive : pos 0 <ℤ cross e k d
-  pub is-zero : divisor e k d ≡ pos 0
-
--- the first of m contours with the greatest sum
-pub record FirstContour (c : ℕ → ℕ → ℤ) (nb m d j : ℕ) : Type 0 where
-  pub tried : j < m
-  pub highest : (j′ : ℕ) → j′ < m → contour-sum c nb d j′ ≤ℤ contour-sum c nb d j
-  pub first : (j′ : ℕ) → j′ < j → contour-sum c nb d j′ <ℤ contour-sum c nb d j
-
-module _ (e : List ℤ) (kept : List ℕ) (fs nb cx : ℕ) (thres2 prev corr : ℤ) where
-  abbrev pub C : ℕ → ℕ → ℤ
-  C = correlation e kept
-
-  abbrev pub contours : ℕ
-  contours = contours2 fs nb cx
-
-  -- a lag's biased score
-  abbrev pub points : ℕ → ℤ
-  points d = score C nb contours (prev-8khz fs prev) corr d
-
-  -- a lag passes: it is listed, and its sum is above the threshold
-  pub record Passes (d : ℕ) : Type 0 where
-    pub lists : Listed kept d
-    pub above : threshold nb thres2 <ℤ lag-sum C nb contours d
-
-  -- the winner: its contour and its correlation with it
-  pub record Wins (d j : ℕ) (r : ℤ) : Type 0 where
-    pub passes-so : Passes d
-    pub highest : (d′ : ℕ) → Passes d′ → points d′ ≤ℤ points d
-    pub first : (d′ : ℕ) → Passes d′ → d′ < d → points d′ <ℤ points d
-    pub contour : FirstContour C nb contours d j
-    pub correlates : r ≡ quotZ (contour-sum C nb d j) (pos nb) *ℤ pos 4
-
-  abbrev pub NoZero : Type 0
-  NoZero = (k d : ℕ) → ZeroReached e kept nb k d → ⊥
-
-  abbrev pub Meaning : Stage2 → Type 0
-  Meaning ZeroDivisor = (k : ℕ) × (d : ℕ) × ZeroReached e kept nb k d
-  Meaning Unvoiced = NoZero × ((d : ℕ) → Passes d → ⊥)
-  Meaning (Winner d j r) = NoZero × Wins d j r
+use Rattle.silk_stage2.specs.Meaning.{ZeroReached, FirstContour, points, Passes, Wins, NoZero, Meaning}
 
 -- ---- a lag's sum is that of its first contour of greatest sum
 
@@ -99,19 +53,22 @@ one-contour c nb m d j j′ f g = by (decLt j j′) (decLt j′ j)
 
 module _ (e : List ℤ) (kept : List ℕ) (nb : ℕ) where
   of-zero : (k d : ℕ) → k < nb → zero-reached e kept k d ≡ true → ZeroReached e kept nb k d
-  unfolding zero-reached by-zero
+  unfolding zero-reached quotient2
   of-zero k d l t =
-      let u = and-right (measured kept d) (by-zero (cross e k d) (divisor e k d)) t in
+      let x = ltZ (pos 0) (cross e k d) in
+      let z = by-zero (quotient2 e k d) in
+      let u = and-right (measured kept d) (x && z) t in
       record {
         subframe = l;
-        measures = measured-means kept d .0 (and-left (measured kept d) (by-zero (cross e k d) (divisor e k d)) t);
-        positive = lt-true (pos 0) (cross e k d) (and-left (ltZ (pos 0) (cross e k d)) (eqZ (divisor e k d) (pos 0)) u);
-        is-zero = eqZ-true (divisor e k d) (pos 0) (and-right (ltZ (pos 0) (cross e k d)) (eqZ (divisor e k d) (pos 0)) u);
+        measures = measured-means kept d .0 (and-left (measured kept d) (x && z) t);
+        positive = lt-true (pos 0) (cross e k d) (and-left x z u);
+        is-zero = eqZ-true (divisor e k d) (pos 0) (sym (by-zero-is (cross e k d) (divisor e k d) (pos 14)) ∙ and-right x z u);
       }
 
   zero-of : (k d : ℕ) → ZeroReached e kept nb k d → zero-reached e kept k d ≡ true
-  unfolding zero-reached by-zero
-  zero-of k d z = ap₂ _&&_ (measured-means kept d .1 (z .measures)) (ap₂ _&&_ (lt-yes (z .positive)) (eqZ-yes (z .is-zero)))
+  unfolding zero-reached quotient2
+  zero-of k d z =
+      ap₂ _&&_ (measured-means kept d .1 (z .measures)) (ap₂ _&&_ (lt-yes (z .positive)) (by-zero-is (cross e k d) (divisor e k d) (pos 14) ∙ eqZ-yes (z .is-zero)))
 
   zero-found : zero2 e kept nb ≡ true → (k : ℕ) × (d : ℕ) × ZeroReached e kept nb k d
   unfolding zero2

@@ -1,5 +1,6 @@
--- What stage 2 measures. Definitions: `Marks`, `Correlations`; the rest are what proofs need.
+-- What stage 2 measures. Definitions: `Marks`, `Correlations`; the marked lags in words: `Meaning`; the rest are what proofs need.
 pub mod Marks
+pub mod Meaning
 pub mod MarkLaws
 pub mod MarkFacts
 pub mod Correlations

@@ -1,9 +1,9 @@
--- The listed and the measured lags in words, document 01's examples of them, and that at most 24 lags are listed.
+-- The listed and the measured lags are those of `Meaning`'s words; document 01's examples of them; at most 24 lags are listed.
 -- Assumes nothing.
 use mathlib.Core.Path.{_≡_, refl, ap, ap₂, _∙_}
 use mathlib.Core.Bool.{Bool, true, false, _&&_, _||_, cond, false≢true}
 use mathlib.Core.List.{List, [], _∷_, _++_}
-use Prim.Native.Nat.{ℕ, zero, suc, _+_, _-_, _*_, _≤_, _<_, min}
+use Prim.Native.Nat.{ℕ, zero, suc, _+_, _-_, _*_, _≤_, min}
 use native.Mathlib.Omega.{arith}
 use borrow.Author.Tests.{leb-true}
 use lib.Dec.{leb}
@@ -11,24 +11,11 @@ use lib.ListN.{length, getD, length-append}
 use Rattle.best.specs.Best.{some}
 use Rattle.best.specs.BestLaws.{some-find}
 use Rattle.stage2_correlations.specs.Marks.{mark-near, near, listed, measured, Kept}
+use Rattle.stage2_correlations.specs.Meaning.{Marked, Listed, Measured}
 use Rattle.zint.specs.BoolLaws.{and-left, and-right}
 use Rattle.stage2_correlations.specs.MarkLaws.{mark-yes, near-yes, inside}
 
--- ---- a marked lag in words: it lies within the ends, and from v - below to v + above for the double v of a kept lag
-
-pub record Marked (kept : List ℕ) (below above low high d : ℕ) : Type 0 where
-  pub at-least : low ≤ d
-  pub at-most : d ≤ high
-  pub which : ℕ
-  pub is-kept : which < length kept
-  pub not-below : 2 * getD kept which 0 ≤ d + below
-  pub not-above : d ≤ 2 * getD kept which 0 + above
-
-abbrev pub Listed : List ℕ → ℕ → Type 0
-Listed kept d = Marked kept 1 1 16 143 d
-
-abbrev pub Measured : List ℕ → ℕ → Type 0
-Measured kept d = Marked kept 2 3 14 144 d
+-- ---- the marks and the words
 
 module _ (kept : List ℕ) (below above low high d : ℕ) where
   of-marked : Marked kept below above low high d → (leb low d && (leb d high && near kept below above d)) ≡ true

@@ -1,4 +1,4 @@
--- Laws of the marked lags: the tests by their bounds, document 01's three examples, and that at most 24 lags are listed.
+-- Laws of the marked lags: the tests by their bounds.
 -- Assumes nothing.
 use mathlib.Core.Path.{_≡_, ap, ap₂, _∙_}
 use mathlib.Core.Bool.{Bool, true, false, _&&_, and-false}

@@ -11,7 +11,6 @@ use lib.IntN.{ℤ, pos, natAbs, _+ℤ_, _-ℤ_, _*ℤ_, +ℤ-assoc}
 use lib.ListN.{getD, drop}
 use lib.Signed.{ltZ}
 use mir.Syntax.{w16, w32}
-use Rattle.zint.specs.Equal.{eqZ}
 use Rattle.zint.specs.Wrap.{wrap}
 use Rattle.zint.specs.WrapLaws.{wraps, wrap-fits}
 use Rattle.zint.specs.Bound.{fits-abs}
@@ -19,38 +18,30 @@ use Rattle.lists.specs.Signal.{sample}
 use Rattle.lists.specs.Fill.{table, getD-table, table-ext}
 use Rattle.best.specs.Best.{some}
 use Rattle.best.specs.BestLaws.{some-ext, some-true, some-false, some-find, some-none}
-use Rattle.silk_macros.specs.Divide.{quotient, low16-of, by-zero as no-value}
-use Rattle.silk_macros.specs.DivideLaws.{by-zero-is}
+use Rattle.silk_macros.specs.Divide.{quotient, low16-of, by-zero}
 use Rattle.silk_macros.specs.declared.Quotient.{Quotient}
 use Rattle.silk_macros.specs.declared.Quotient.the-variants.{Value, ZeroDivisor}
 use Rattle.silk_sigproc.specs.Dot.{dot}
 use Rattle.silk_sigproc.specs.DotLaws.{dot-slide}
-use Rattle.stage2_correlations.specs.declared.Ratio.{Ratio}
 use Rattle.stage2_correlations.specs.Marks.{near, measured}
 use Rattle.stage2_correlations.specs.MarkLaws.{too-low, too-high}
-use Rattle.stage2_correlations.specs.Correlations.{target, cross, divisor, ratio, by-zero, correlation, zero-reached}
-use Rattle.stage2_correlations.specs.Rows.{ratio-of, energy-from, at-lag, value-at, zero-at, row}
-
--- a ratio is its two parts
-pub ratio-by : {a b : Bool} {x y : ℤ} → a ≡ b → x ≡ y → _≡_ {A = Ratio} (record { zero = a; value = x }) (record { zero = b; value = y })
-ratio-by p q = λ i. record { zero = p i; value = q i }
+use Rattle.stage2_correlations.specs.Correlations.{target, cross, divisor, quotient2, correlation, zero-reached}
+use Rattle.stage2_correlations.specs.Rows.{reached, ratio-of, energy-from, at-lag, value-at, zero-at, row}
 
 -- ---- the quotient's two answers
 
 module _ (x n : ℤ) where
   pub ratio-none : ltZ (pos 0) x ≡ false → record { zero = false; value = pos 0 } ≡ ratio-of x n
-  unfolding ratio-of ratio by-zero
-  ratio-none h = sym (ratio-by (ap (λ (t : Bool). t && eqZ n (pos 0)) h) (ap (λ (t : Bool). cond t (low16-of (quotient x n (pos 14))) (pos 0)) h))
+  unfolding ratio-of
+  ratio-none h = sym (ap (λ (t : Bool). reached t (quotient x n (pos 14))) h)
 
   pub ratio-value : (q : ℤ) → ltZ (pos 0) x ≡ true → quotient x n (pos 14) ≡ Value q → record { zero = false; value = wrap w16 q } ≡ ratio-of x n
-  unfolding ratio-of ratio by-zero
-  ratio-value q h e =
-      sym (ratio-by (ap₂ _&&_ h (sym (by-zero-is x n (pos 14)) ∙ ap no-value e)) (ap₂ (λ (t : Bool) (a : Quotient). cond t (low16-of a) (pos 0)) h e))
+  unfolding ratio-of
+  ratio-value q h e = sym (ap₂ reached h e)
 
   pub ratio-zero : ltZ (pos 0) x ≡ true → quotient x n (pos 14) ≡ ZeroDivisor → record { zero = true; value = pos 0 } ≡ ratio-of x n
-  unfolding ratio-of ratio by-zero
-  ratio-zero h e =
-      sym (ratio-by (ap₂ _&&_ h (sym (by-zero-is x n (pos 14)) ∙ ap no-value e)) (ap₂ (λ (t : Bool) (a : Quotient). cond t (low16-of a) (pos 0)) h e))
+  unfolding ratio-of
+  ratio-zero h e = sym (ap₂ reached h e)
 
 -- ---- the divisor from the two energies, and the basis energy one sample earlier
 
@@ -72,11 +63,11 @@ energy-back e b z h =
 
 pub at-lag-is : (e : List ℤ) (m : List Bool) (k i : ℕ) (n : ℤ) → n ≡ divisor e k (14 + i)
     → at-lag (getD m i false) e (target k) (14 + i) n ≡ record { zero = zero-at e m k i; value = value-at e m k i }
-unfolding at-lag ratio-of cross
+unfolding at-lag ratio-of cross quotient2
 at-lag-is e m k i n h = by (getD m i false)
   where
     by : (t : Bool) → cond t (ratio-of (wrap w32 (dot (drop (target k) e) (drop (target k - (14 + i)) e) 40)) n) (record { zero = false; value = pos 0 })
-        ≡ record { zero = t && by-zero (cross e k (14 + i)) (divisor e k (14 + i)); value = cond t (ratio (cross e k (14 + i)) (divisor e k (14 + i))) (pos 0) }
+        ≡ record { zero = t && (ltZ (pos 0) (cross e k (14 + i)) && by-zero (quotient2 e k (14 + i))); value = cond t (cond (ltZ (pos 0) (cross e k (14 + i))) (low16-of (quotient2 e k (14 + i))) (pos 0)) (pos 0) }
     by true = ap (ratio-of (cross e k (14 + i))) h
     by false = refl
 
@@ -96,12 +87,13 @@ pub row-kept : (e : List ℤ) (kept : List ℕ) (k : ℕ)
     → row e (table (λ i. measured kept (14 + i)) 132) k ≡ record { zero = some 132 (λ i. zero-reached e kept k (14 + i)); c = table (λ i. correlation e kept k (14 + i)) 132 }
 unfolding row correlation zero-reached
 row-kept e kept k =
-    let m : (i : ℕ) → i < 132 → getD (table (λ i. measured kept (14 + i)) 132) i false ≡ measured kept (14 + i) = λ i h. getD-table _ 132 i false h in
+    let marks = table (λ i. measured kept (14 + i)) 132 in
+    let m : (i : ℕ) → i < 132 → getD marks i false ≡ measured kept (14 + i) = λ i h. getD-table _ 132 i false h in
+    let v : ℕ → ℤ = λ i. cond (ltZ (pos 0) (cross e k (14 + i))) (low16-of (quotient2 e k (14 + i))) (pos 0) in
+    let z : ℕ → Bool = λ i. ltZ (pos 0) (cross e k (14 + i)) && by-zero (quotient2 e k (14 + i)) in
     (λ t. record {
-      zero = some-ext 132 (zero-at e (table (λ i. measured kept (14 + i)) 132) k) (λ i. measured kept (14 + i) && by-zero (cross e k (14 + i)) (divisor e k (14 + i)))
-          (λ i h. ap (λ (b : Bool). b && by-zero (cross e k (14 + i)) (divisor e k (14 + i))) (m i h)) t;
-      c = table-ext {f = value-at e (table (λ i. measured kept (14 + i)) 132) k} {g = λ i. cond (measured kept (14 + i)) (ratio (cross e k (14 + i)) (divisor e k (14 + i))) (pos 0)} 132
-          (λ i h. ap (λ (b : Bool). cond b (ratio (cross e k (14 + i)) (divisor e k (14 + i))) (pos 0)) (m i h)) t;
+      zero = some-ext 132 (zero-at e marks k) (λ i. measured kept (14 + i) && z i) (λ i h. ap (λ (b : Bool). b && z i) (m i h)) t;
+      c = table-ext {f = value-at e marks k} {g = λ i. cond (measured kept (14 + i)) (v i) (pos 0)} 132 (λ i h. ap (λ (b : Bool). cond b (v i) (pos 0)) (m i h)) t;
     })
 
 -- ---- a correlation has 16 bits
@@ -115,21 +107,20 @@ cond-small true z h = h
 cond-small false z h = omega arith
 
 pub correlation-small : (e : List ℤ) (kept : List ℕ) (k d : ℕ) → natAbs (correlation e kept k d) ≤ 32768
-unfolding correlation ratio
+unfolding correlation
 correlation-small e kept k d =
-    let x = cross e k d in
-    let n = divisor e k d in
-    cond-small (measured kept d) (ratio x n) (cond-small (ltZ (pos 0) x) (low16-of (quotient x n (pos 14))) (low16-small (quotient x n (pos 14))))
+    let q = quotient2 e k d in
+    cond-small (measured kept d) (cond (ltZ (pos 0) (cross e k d)) (low16-of q) (pos 0)) (cond-small (ltZ (pos 0) (cross e k d)) (low16-of q) (low16-small q))
 
 -- ---- the lags of a row are all the lags that can be measured
 
 outside-low : (e : List ℤ) (kept : List ℕ) (k d : ℕ) → d < 14 → zero-reached e kept k d ≡ false
 unfolding zero-reached measured
-outside-low e kept k d h = ap (λ (t : Bool). t && by-zero (cross e k d) (divisor e k d)) (too-low 14 144 d (near kept 2 3 d) h)
+outside-low e kept k d h = ap (λ (t : Bool). t && (ltZ (pos 0) (cross e k d) && by-zero (quotient2 e k d))) (too-low 14 144 d (near kept 2 3 d) h)
 
 outside-high : (e : List ℤ) (kept : List ℕ) (k d : ℕ) → 144 < d → zero-reached e kept k d ≡ false
 unfolding zero-reached measured
-outside-high e kept k d h = ap (λ (t : Bool). t && by-zero (cross e k d) (divisor e k d)) (too-high 14 144 d (near kept 2 3 d) h)
+outside-high e kept k d h = ap (λ (t : Bool). t && (ltZ (pos 0) (cross e k d) && by-zero (quotient2 e k d))) (too-high 14 144 d (near kept 2 3 d) h)
 
 pub zero-lags : (e : List ℤ) (kept : List ℕ) (k : ℕ) → some 132 (λ i. zero-reached e kept k (14 + i)) ≡ some 145 (zero-reached e kept k)
 zero-lags e kept k = by (some 145 (zero-reached e kept k)) refl

@@ -5,17 +5,24 @@ use mathlib.Core.List.{List}
 use Prim.Native.Nat.{ℕ, _+_, _-_}
 use lib.IntN.{ℤ, pos}
 use lib.ListN.{drop, getD}
+use lib.Signed.{ltZ}
 use mir.Syntax.{w32}
 use Rattle.zint.specs.Wrap.{wrap}
 use Rattle.lists.specs.Fill.{table}
 use Rattle.best.specs.Best.{some}
+use Rattle.silk_macros.specs.Divide.{quotient, by-zero, low16-of}
+use Rattle.silk_macros.specs.declared.Quotient.{Quotient}
 use Rattle.silk_sigproc.specs.Dot.{dot}
 use Rattle.stage2_correlations.specs.declared.Ratio.{Ratio}
 use Rattle.stage2_correlations.specs.declared.Row.{Row}
-use Rattle.stage2_correlations.specs.Correlations.{cross, divisor, ratio, by-zero}
+use Rattle.stage2_correlations.specs.Correlations.{cross, quotient2}
+
+-- a quotient where the test holds: its low 16 bits, and whether its divisor is zero
+abbrev pub reached : Bool → Quotient → Ratio
+reached t q = record { zero = t && by-zero q; value = cond t (low16-of q) (pos 0) }
 
 unfoldable pub ratio-of : ℤ → ℤ → Ratio
-ratio-of x n = record { zero = by-zero x n; value = ratio x n }
+ratio-of x n = reached (ltZ (pos 0) x) (quotient x n (pos 14))
 
 unfoldable pub energy-from : List ℤ → ℕ → ℤ
 energy-from e t = dot (drop t e) (drop t e) 40
@@ -25,10 +32,10 @@ at-lag m e t d n = cond m (ratio-of (wrap w32 (dot (drop t e) (drop (t - d) e) 4
 
 -- the i-th lag's correlation, and whether its divisor is reached and zero
 abbrev pub value-at : List ℤ → List Bool → ℕ → ℕ → ℤ
-value-at e m k i = cond (getD m i false) (ratio (cross e k (14 + i)) (divisor e k (14 + i))) (pos 0)
+value-at e m k i = cond (getD m i false) (cond (ltZ (pos 0) (cross e k (14 + i))) (low16-of (quotient2 e k (14 + i))) (pos 0)) (pos 0)
 
 abbrev pub zero-at : List ℤ → List Bool → ℕ → ℕ → Bool
-zero-at e m k i = getD m i false && by-zero (cross e k (14 + i)) (divisor e k (14 + i))
+zero-at e m k i = getD m i false && (ltZ (pos 0) (cross e k (14 + i)) && by-zero (quotient2 e k (14 + i)))
 
 unfoldable pub row : List ℤ → List Bool → ℕ → Row
 row e m k = record { zero = some 132 (zero-at e m k); c = table (value-at e m k) 132 }
