@@ -1,7 +1,7 @@
 // Stage 3 of the pitch analyser: the lag near stage 2's winner and the contour with the highest score.
 ghost use mathlib.Core.Path.{_≡_};
 ghost use Prim.Native.Nat.{ℕ, _+_, _-_, _*_, _<_, _≤_};
-ghost use lib.IntN.{ℤ, pos, _+ℤ_};
+ghost use lib.IntN.{pos, _+ℤ_};
 ghost use lib.ListN.{length};
 ghost use lib.Signed.{leZ, _≤ℤ_};
 ghost use Rattle.silk_tables.specs.Tables.{Settings, in-use, offset};
