@@ -4,4 +4,5 @@ pub mod ScoreLaws
 pub mod Stage2
 pub mod Meaning
 pub mod Searched
+pub mod NumberLaws
 pub mod Theorem

@@ -2,7 +2,7 @@
 -- threshold, and the previous lag and correlation. Definitions only.
 use mathlib.Core.Path.{_≡_}
 use mathlib.Core.Bool.{Bool, cond}
-use mathlib.Core.List.{List}
+use mathlib.Core.List.{List, [], _∷_}
 use mathlib.Core.Logic.{_⊎_}
 use Prim.Native.Nat.{ℕ, _+_, _*_, _≤_, _<_}
 use lib.IntN.{ℤ, pos, _*ℤ_}
@@ -36,6 +36,31 @@ zero2 e kept nb = some nb (λ k. some 145 (zero-reached e kept k))
 
 unfoldable pub stage2 : List ℤ → List ℕ → ℕ → ℕ → ℕ → ℤ → ℤ → ℤ → Stage2
 stage2 e kept fs nb cx thres2 prev corr = cond (zero2 e kept nb) ZeroDivisor (picked (correlation e kept) kept fs nb cx thres2 prev corr)
+
+-- ---- the answer in document 01's numbers
+
+-- the answer's cases: a zero divisor is verdict 2, unvoiced verdict 1, and a winner verdict 0 with its lag, contour and correlation
+abbrev pub stage2-numbers : Stage2 → List ℤ
+stage2-numbers ZeroDivisor = pos 2 ∷ []
+stage2-numbers Unvoiced = pos 1 ∷ []
+stage2-numbers (Winner d j r) = pos 0 ∷ pos d ∷ pos j ∷ r ∷ []
+
+-- the verdict and the values from the place of the winner
+abbrev pub won-verdict : Place → ℕ
+won-verdict none = 1
+won-verdict (at p) = 0
+
+abbrev pub won-values : (ℕ → ℕ → ℤ) → ℕ → ℕ → Place → List ℤ
+won-values c nb m none = []
+won-values c nb m (at p) = pos (16 + p) ∷ pos (best-contour c nb m (16 + p)) ∷ (quotZ (lag-sum c nb m (16 + p)) (pos nb) *ℤ pos 4) ∷ []
+
+unfoldable pub stage2-verdict : List ℤ → List ℕ → ℕ → ℕ → ℕ → ℤ → ℤ → ℤ → ℕ
+stage2-verdict e kept fs nb cx thres2 prev corr =
+    cond (zero2 e kept nb) 2 (won-verdict (winner (correlation e kept) kept nb (contours2 fs nb cx) thres2 (prev-8khz fs prev) corr))
+
+unfoldable pub stage2-values : List ℤ → List ℕ → ℕ → ℕ → ℕ → ℤ → ℤ → ℤ → List ℤ
+stage2-values e kept fs nb cx thres2 prev corr =
+    won-values (correlation e kept) nb (contours2 fs nb cx) (winner (correlation e kept) kept nb (contours2 fs nb cx) thres2 (prev-8khz fs prev) corr)
 
 -- what stage 2 is handed: a rate, a subframe count and a complexity that are accepted, a whole frame at 8 kHz, and lags that stage 1 keeps
 pub record Handed2 (e : List ℤ) (kept : List ℕ) (fs nb cx : ℕ) : Type 0 where

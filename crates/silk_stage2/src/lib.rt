@@ -3,11 +3,12 @@ ghost use mathlib.Core.Path.{_≡_};
 ghost use Prim.Native.Nat.{_≤_, _<_};
 ghost use lib.IntN.{pos, natAbs};
 ghost use lib.Signed.{_≤ℤ_};
+ghost use Rattle.answers.specs.Answer.{answer-numbers};
 ghost use Rattle.silk_macros.specs.Log.{lin2log};
 ghost use Rattle.silk_tables.specs.Tables.{entries2};
 ghost use Rattle.stage2_correlations.specs.Marks.{Kept};
 ghost use Rattle.silk_stage2.specs.Scores.{contour-sum, prev-8khz, distance, prev-bias, biased, threshold};
-ghost use Rattle.silk_stage2.specs.Stage2.{picked, stage2, Handed2};
+ghost use Rattle.silk_stage2.specs.Stage2.{picked, stage2, stage2-numbers, stage2-verdict, stage2-values, Handed2};
 ghost use Rattle.silk_stage2.specs.Searched.{at2, Tried, Handed, along, considered, tried, answered, Upto};
 use silk_macros::silk_div32;
 use silk_macros::silk_div32_16;
@@ -281,6 +282,7 @@ pub fn silk_stage2(
 ) -> Stage2
     requires { ⌜ Handed2 (now «frame_8khz») (now kept) «fs_khz» «nb_subfr» complexity ⌝ }
     ensures { λ r. ⌜ r ≡ stage2 (now («frame_8khz» .entry)) (now (kept .entry)) «fs_khz» «nb_subfr» complexity «search_thres2_q13» «prev_lag» «prev_corr» ⌝ }
+    ensures { λ r. ⌜ stage2-numbers r ≡ answer-numbers (stage2-verdict (now («frame_8khz» .entry)) (now (kept .entry)) «fs_khz» «nb_subfr» complexity «search_thres2_q13» «prev_lag» «prev_corr») (stage2-values (now («frame_8khz» .entry)) (now (kept .entry)) «fs_khz» «nb_subfr» complexity «search_thres2_q13» «prev_lag» «prev_corr») ⌝ }
 {
     let marks = measured_lags(kept);
     let mut c_8khz = [[0i16; 132]; 4];

@@ -4,9 +4,10 @@ ghost use Prim.Native.Nat.{ℕ, _+_, _-_, _*_, _<_, _≤_};
 ghost use lib.IntN.{pos, _+ℤ_};
 ghost use lib.ListN.{length};
 ghost use lib.Signed.{leZ, _≤ℤ_};
+ghost use Rattle.answers.specs.Answer.{answer-numbers};
 ghost use Rattle.silk_tables.specs.Tables.{Settings, in-use, offset};
 ghost use Rattle.silk_stage3.specs.Pick.{first-tried, last-tried, biased};
-ghost use Rattle.silk_stage3.specs.Stage3.{sat-sum, energy-target, stage3, Handed};
+ghost use Rattle.silk_stage3.specs.Stage3.{sat-sum, energy-target, stage3, found-numbers, stage3-verdict, stage3-values, Handed};
 ghost use Rattle.silk_stage3.specs.Searched.{considered, at3, Scanned, Upto, UptoOr, picked};
 use silk_macros::Quotient;
 use silk_macros::silk_add_sat32;
@@ -240,6 +241,7 @@ pub fn silk_stage3(
 ) -> Found
     requires { ⌜ Handed (now frame) «fs_khz» «nb_subfr» complexity lag ⌝ }
     ensures { λ r. ⌜ r ≡ stage3 (now (frame .entry)) «fs_khz» «nb_subfr» complexity lag ⌝ }
+    ensures { λ r. ⌜ found-numbers r ≡ answer-numbers (stage3-verdict (now (frame .entry)) «fs_khz» «nb_subfr» complexity lag) (stage3-values (now (frame .entry)) «fs_khz» «nb_subfr» complexity lag) ⌝ }
 {
     let first = start_lag(fs_khz, lag);
     let cross_corr_st3 = silk_p_ana_calc_corr_st3(frame, first, nb_subfr, complexity, fs_khz);

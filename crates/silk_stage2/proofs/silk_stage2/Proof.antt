@@ -16,7 +16,9 @@ use Rattle.stage2_correlations.specs.declared.Row.{Row}
 use Rattle.stage2_correlations.specs.Rows.{row}
 use Rattle.stage2_correlations.specs.RowLaws.{row-kept, zero-lags}
 use Rattle.silk_stage2.specs.ScoreLaws.{Small}
+use Rattle.silk_stage2.specs.declared.Stage2.the-variants.{ZeroDivisor}
 use Rattle.silk_stage2.specs.Stage2.{picked}
+use Rattle.silk_stage2.specs.NumberLaws.{and-numbers}
 use Rattle.silk_tables.specs.TableLaws.{two-to-four}
 use Rattle.silk_stage2.specs.Searched.{at2, rows, rows-small, stage2-picked, stage2-zero}
 use Rattle.zint.specs.Rules.{zneeds}
@@ -68,7 +70,8 @@ returns : tie.Need-returns Inv-loop μ-loop
 returns c =
     let d = c .before in
     let a = start d .args in
-    stage2-zero _ _ (a .fs-khz) (a .nb-subfr) (a .complexity) (a .search-thres2-q13) (a .prev-lag) (a .prev-corr) (here d .loop .k) (omega arith) (zero-is d ∙ c .if1 .taken)
+    and-numbers _ _ _ _ _ _ _ _ ZeroDivisor
+    (stage2-zero (e d) (lags d) (a .fs-khz) (a .nb-subfr) (a .complexity) (a .search-thres2-q13) (a .prev-lag) (a .prev-corr) (here d .loop .k) (omega arith) (zero-is d ∙ c .if1 .taken))
 
 mul-c-8khz : tie.Need-mul-c-8khz Inv-loop μ-loop
 mul-c-8khz c = omega (arith, two-to-four (start (c .before .before) .pre .subframes))
@@ -123,9 +126,10 @@ returns-2 c =
     let f = s .fits in
     let k : l .loop .k ≡ a .nb-subfr = omega arith in
     let r = l .loop .inv .1 .1 .1 ∙ ap (rows (a .frame-8khz .now) (a .kept .now)) k in
-    c .winner .ensures
+    and-numbers _ _ _ _ _ _ _ _ (c .winner .result)
+    (c .winner .ensures
     ∙ (λ t. picked (at2 (r t)) (a .kept .now) (a .fs-khz) (a .nb-subfr) (a .complexity) (r-var (f .search-thres2-q13) .val t) (r-var (f .prev-lag) .val t) (r-var (f .prev-corr) .val t))
-    ∙ stage2-picked (a .frame-8khz .now) (a .kept .now) (a .fs-khz) (a .nb-subfr) (a .complexity) (a .search-thres2-q13) (a .prev-lag) (a .prev-corr) (λ q h. l .loop .inv .1 .1 .0 q (omega arith))
+    ∙ stage2-picked (a .frame-8khz .now) (a .kept .now) (a .fs-khz) (a .nb-subfr) (a .complexity) (a .search-thres2-q13) (a .prev-lag) (a .prev-corr) (λ q h. l .loop .inv .1 .1 .0 q (omega arith)))
 
 pub silk-stage2-spec : {M : Type 1} → statement M
 silk-stage2-spec =
