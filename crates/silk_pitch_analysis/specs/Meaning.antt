@@ -1,5 +1,6 @@
 -- What a frame's verdict is, in words (document 01, "Three stages"; the order's third demand): unvoiced exactly where no divisor reached is zero and either stage 1's best is under 3277
--- or no lag passes stage 2; a voiced frame's pair is the last stage's best by comparison or, where stage 3 has no candidate, the scaled winner with contour 0. `Theorem` shows it.
+-- or no lag passes stage 2; a zero divisor exactly where a divisor reached is zero; a voiced frame's pair is the last stage's best by comparison or, where stage 3 has no candidate, the
+-- scaled winner with contour 0. `VerdictExactly` is the claim, and `Theorem` shows it.
 use mathlib.Core.Path.{_≡_}
 use mathlib.Core.List.{List}
 use mathlib.Core.Logic.{_⊎_}
@@ -14,7 +15,7 @@ use Rattle.silk_stage2.specs.Theorem.{ZeroReached as ZeroReached2, Passes, Wins
 use Rattle.silk_stage3.specs.Theorem.{ZeroReached as ZeroReached3, BestPair, Candidate}
 use Rattle.silk_pitch_analysis.specs.declared.Verdict.{Verdict}
 use Rattle.silk_pitch_analysis.specs.declared.Verdict.the-variants.{Voiced, Unvoiced, ZeroDivisor}
-use Rattle.silk_pitch_analysis.specs.Frame.{signal8, signal4, scaled-lag}
+use Rattle.silk_pitch_analysis.specs.Frame.{signal8, signal4, scaled-lag, verdict-of}
 
 module _ (s : Settings) (x : List ℤ) (prev corr : ℤ) where
   -- the working frame, its 8 kHz and 4 kHz forms, and the lags that stage 1 keeps
@@ -97,3 +98,7 @@ module _ (s : Settings) (x : List ℤ) (prev corr : ℤ) where
   Means (Voiced index contour r) = VoicedWhen index contour r
   Means Unvoiced = UnvoicedWhen
   Means ZeroDivisor = ZeroWhen
+
+  -- the claim: each verdict comes exactly where it has its meaning
+  abbrev pub VerdictExactly : Type 0
+  VerdictExactly = (v : Verdict) → (verdict-of s x prev corr ≡ v → Means v) × (Means v → verdict-of s x prev corr ≡ v)
