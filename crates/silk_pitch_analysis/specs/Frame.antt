@@ -1,15 +1,17 @@
 -- A frame: what `silk_pitch_analysis_core` answers for the settings s, the frame's samples x and the previous lag and correlation (document 01, "Three stages" and the row rules of
 -- "Track"; pitch_analysis.rs). Definitions only; what they say in words is in `Meaning`.
 use mathlib.Core.Bool.{Bool, cond}
-use mathlib.Core.List.{List}
+use mathlib.Core.List.{List, [], _∷_}
 use Prim.Native.Nat.{ℕ, _*_, _/_}
 use lib.Dec.{eqb, ltb}
 use lib.IntN.{ℤ, pos, natAbs, _-ℤ_}
 use lib.ListN.{length, take}
+use Rattle.answers.specs.Answer.{answer-numbers}
 use Rattle.lists.specs.Fill.{filled}
 use Rattle.pitch_settings.specs.declared.Settings.{Settings}
 use Rattle.pitch_settings.specs.Settings.{settings-no, frame-length}
 use Rattle.pitch_table.specs.declared.Row.{Row}
+use Rattle.pitch_table.specs.Row.{numbers}
 use Rattle.silk_signals.specs.Scale.{scaled}
 use Rattle.silk_signals.specs.Signals.{eight, four}
 use Rattle.silk_stage1.specs.Stage1.{stage1, kept}
@@ -154,3 +156,29 @@ frameOf s x l prev corr =
 unfoldable pub row-answer : Settings → List ℤ → ℤ → ℤ → RowAnswer
 row-answer s x prev corr =
     cond (eqb (frame-no s (length x) 4) 0) (RowAnalysed (row-of s (take (frame-length s) x) prev corr)) (RowRefused (frame-no s (length x) 4))
+
+-- ---- the answers in document 01's numbers
+
+-- a verdict: its number, then lag index, contour index and correlation
+abbrev pub verdict-numbers : Verdict → List ℤ
+verdict-numbers (Voiced index contour corr) = pos 0 ∷ index ∷ contour ∷ corr ∷ []
+verdict-numbers Unvoiced = pos 1 ∷ pos 0 ∷ pos 0 ∷ pos 0 ∷ []
+verdict-numbers ZeroDivisor = pos 2 ∷ pos 0 ∷ pos 0 ∷ pos 0 ∷ []
+
+-- a refusal is its number; 0 and the verdict's numbers where there is none
+abbrev pub answer-in-numbers : Answer → List ℤ
+answer-in-numbers (Refused k) = pos k ∷ []
+answer-in-numbers (Analysed v) = pos 0 ∷ verdict-numbers v
+
+-- and 0 and the row's eight numbers
+abbrev pub row-answer-in-numbers : RowAnswer → List ℤ
+row-answer-in-numbers (RowRefused k) = pos k ∷ []
+row-answer-in-numbers (RowAnalysed row) = pos 0 ∷ numbers row
+
+-- what the frame call says of the samples x with m lag places: the refusal, or the first four numbers of the row
+unfoldable pub frame-in-numbers : Settings → List ℤ → ℕ → ℤ → ℤ → List ℤ
+frame-in-numbers s x m prev corr = answer-numbers (frame-no s (length x) m) (take 4 (numbers (row-of s (take (frame-length s) x) prev corr)))
+
+-- what the row call says: the refusal, or the row
+unfoldable pub row-in-numbers : Settings → List ℤ → ℤ → ℤ → List ℤ
+row-in-numbers s x prev corr = answer-numbers (frame-no s (length x) 4) (numbers (row-of s (take (frame-length s) x) prev corr))

@@ -2,7 +2,7 @@
 -- Assumes nothing.
 use mathlib.Core.Path.{_≡_, refl, sym, ap, _∙_, subst}
 use mathlib.Core.Bool.{Bool, true, false, cond}
-use mathlib.Core.List.{List}
+use mathlib.Core.List.{List, [], _∷_}
 use mathlib.Core.Logic.{_⊎_, ⊎-elim}
 use Prim.Native.Nat.{ℕ, _+_, _-_, _*_, _/_, _≤_, _<_}
 use native.Mathlib.Omega.{arith}
@@ -12,11 +12,13 @@ use lib.IntN.{ℤ, pos, natAbs, _-ℤ_}
 use lib.ListN.{length, take}
 use lib.Seq.{take-all}
 use lib.Signed.{_<ℤ_}
+use Rattle.answers.specs.Answer.{answer-numbers}
 use Rattle.zint.specs.Diff.{eq-of, sub-ud′, of-lt, zarith}
 use Rattle.pitch_settings.specs.declared.Settings.{Settings}
 use Rattle.pitch_settings.specs.Settings.{settings-no, frame-length}
 use Rattle.pitch_settings.specs.SettingsLaws.{accepted}
 use Rattle.pitch_table.specs.declared.Row.{Row}
+use Rattle.pitch_table.specs.Row.{numbers}
 use Rattle.silk_tables.specs.Tables.{contours, contours2, in-use, greatest-index}
 use Rattle.silk_tables.specs.TableLaws.{in-use-bounds}
 use Rattle.silk_tables.specs.ContourLaws.{contours-le-34}
@@ -29,9 +31,11 @@ use Rattle.silk_stage3.specs.Theorem.{Meaning, stage3-means}
 use Rattle.silk_stage3.specs.declared.Found.the-variants.{Pair}
 use Rattle.silk_pitch_analysis.specs.declared.Verdict.{Verdict}
 use Rattle.silk_pitch_analysis.specs.declared.Verdict.the-variants.{Voiced, Unvoiced, ZeroDivisor}
+use Rattle.silk_pitch_analysis.specs.declared.Answer.{Answer}
+use Rattle.silk_pitch_analysis.specs.declared.Answer.the-variants.{Refused}
 use Rattle.silk_pitch_analysis.specs.declared.RowAnswer.{RowAnswer}
 use Rattle.silk_pitch_analysis.specs.declared.RowAnswer.the-variants.{Analysed as RowAnalysed, Refused as RowRefused}
-use Rattle.silk_pitch_analysis.specs.Frame.{from-pair, row-of, frame-no, row-answer}
+use Rattle.silk_pitch_analysis.specs.Frame.{from-pair, verdict-of, row-from, row-of, frame-no, Outcome, outcome, analysed, frameOf, row-answer, verdict-numbers, answer-in-numbers, row-answer-in-numbers, frame-in-numbers, row-in-numbers}
 
 -- a voiced verdict's pair has an index and a contour of these settings
 pub data Carried (s : Settings) : Verdict → Type 0 where
@@ -140,3 +144,38 @@ one-row o r q e h = cc
 
 pub no-refusal : (o : RowAnswer) (r : Row) (n : ℕ) → o ≡ RowAnalysed r → o ≡ RowRefused n → ⊥
 no-refusal o r n e h = let z : _≡_ {A = ℕ} 0 1 = cc in omega arith
+
+-- ---- the answers in numbers
+
+-- a verdict's numbers are the row's first four
+verdict-told : (s : Settings) (v : Verdict) → verdict-numbers v ≡ take 4 (numbers (row-from s v))
+unfolding row-from
+verdict-told s (Voiced index contour corr) = refl
+verdict-told s Unvoiced = refl
+verdict-told s ZeroDivisor = refl
+
+frame-told : (s : Settings) (v : Verdict) (l : List ℤ) (k : ℕ) (t : Bool) → eqb k 0 ≡ t
+    → answer-in-numbers (cond t (analysed s v l) (outcome (Refused k) l) .answer) ≡ (pos k ∷ cond t (take 4 (numbers (row-from s v))) [])
+unfolding analysed
+frame-told s v l k true e = rw (eqb-true k 0 e) (ap (λ (n : List ℤ). pos 0 ∷ n) (verdict-told s v))
+frame-told s v l k false e = refl
+
+-- so an outcome that is the defined one is told by the defined numbers
+pub answer-told : (s : Settings) (x l : List ℤ) (prev corr : ℤ) (a : Answer) (m : List ℤ) → outcome a m ≡ frameOf s x l prev corr
+    → (outcome a m ≡ frameOf s x l prev corr) × (answer-in-numbers a ≡ frame-in-numbers s x (length l) prev corr)
+unfolding frameOf frame-in-numbers row-of
+answer-told s x l prev corr a m e = (
+  e,
+  ap (λ (o : Outcome). answer-in-numbers (o .answer)) e
+      ∙ frame-told s (verdict-of s (take (frame-length s) x) prev corr) l (frame-no s (length x) (length l)) (eqb (frame-no s (length x) (length l)) 0) refl,
+)
+
+row-told : (r : Row) (k : ℕ) (t : Bool) → eqb k 0 ≡ t → row-answer-in-numbers (cond t (RowAnalysed r) (RowRefused k)) ≡ (pos k ∷ cond t (numbers r) [])
+row-told r k true e = rw (eqb-true k 0 e)
+row-told r k false e = refl
+
+pub row-answer-told : (s : Settings) (x : List ℤ) (prev corr : ℤ) (a : RowAnswer) → a ≡ row-answer s x prev corr
+    → (a ≡ row-answer s x prev corr) × (row-answer-in-numbers a ≡ row-in-numbers s x prev corr)
+unfolding row-answer row-in-numbers
+row-answer-told s x prev corr a e =
+    (e, ap row-answer-in-numbers e ∙ row-told (row-of s (take (frame-length s) x) prev corr) (frame-no s (length x) 4) (eqb (frame-no s (length x) 4) 0) refl)

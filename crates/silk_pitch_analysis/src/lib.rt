@@ -4,7 +4,7 @@ ghost use Prim.Native.Nat.{_+_, _*_, _<_, _≤_};
 ghost use lib.ListN.{length, take};
 ghost use Rattle.lists.specs.Fill.{filled};
 ghost use Rattle.pitch_settings.specs.Settings.{settings-no, frame-length};
-ghost use Rattle.silk_pitch_analysis.specs.Frame.{from-pair, last-stage, from-winner, from-screen, staged, verdict-of, lag-of, row-lag, row-from, row-answer, frame-no, outcome, frameOf};
+ghost use Rattle.silk_pitch_analysis.specs.Frame.{from-pair, last-stage, from-winner, from-screen, staged, verdict-of, lag-of, row-lag, row-from, row-answer, frame-no, outcome, frameOf, answer-in-numbers, row-answer-in-numbers, frame-in-numbers, row-in-numbers};
 ghost use Rattle.silk_stage1.specs.Stage1.{stage1};
 ghost use Rattle.silk_stage2.specs.Stage2.{stage2};
 ghost use Rattle.stage2_correlations.specs.Marks.{Kept};
@@ -270,6 +270,7 @@ fn analyse(frame: &[i16], s: Settings, prev_lag: i32, prev_corr: i32) -> Verdict
 // The row of the first N samples, or refusals 1 to 4 in order: a row has four lag places, so 5 never comes.
 pub fn frame_row(s: Settings, x: &[i16], prev_lag: i32, prev_corr: i32) -> RowAnswer
     ensures { λ r. ⌜ r ≡ row-answer s (now (x .entry)) «prev_lag» «prev_corr» ⌝ }
+    ensures { λ r. ⌜ row-answer-in-numbers r ≡ row-in-numbers s (now (x .entry)) «prev_lag» «prev_corr» ⌝ }
 {
     let no = frame_no(s, x.len(), 4);
     if no != 0 {
@@ -289,6 +290,7 @@ pub fn silk_pitch_analysis_core(
     prev_corr: i32,
 ) -> Answer
     ensures { λ r. ⌜ outcome r (now («pitch_out» .exit)) ≡ frameOf s (now (frame .entry)) (now («pitch_out» .entry)) «prev_lag» «prev_corr» ⌝ }
+    ensures { λ r. ⌜ answer-in-numbers r ≡ frame-in-numbers s (now (frame .entry)) (length (now («pitch_out» .entry))) «prev_lag» «prev_corr» ⌝ }
 {
     let no = frame_no(s, frame.len(), pitch_out.len());
     if no != 0 {

@@ -9,7 +9,7 @@ use Rattle.pitch_settings.specs.Settings.{frame-length}
 use Rattle.pitch_table.specs.declared.Row.{Row}
 use Rattle.silk_pitch_analysis.specs.declared.RowAnswer.the-variants.{Analysed, Refused}
 use Rattle.silk_pitch_analysis.specs.Frame.{verdict-of, row-from, row-of, frame-no, row-answer}
-use Rattle.silk_pitch_analysis.specs.FrameLaws.{Carried, Taken, taken, row-taken}
+use Rattle.silk_pitch_analysis.specs.FrameLaws.{Carried, Taken, taken, row-taken, row-answer-told}
 use Rattle.silk_pitch_analysis.specs.VerdictLaws.{first-carried}
 use Rattle.silk_pitch_analysis.proofs.frame_row.Statement.{statement}
 use Rattle.silk_pitch_analysis.proofs.frame_row.Tie as tie
@@ -33,7 +33,7 @@ unfolding row-answer
 returns c =
     let s = c .before .before in
     let e = c .before .frame-no .ensures in
-    rw (ne-eqb _ 0 (λ (z : frame-no (s .args .s) (length (s .args .x .now)) 4 ≡ 0). c .if1 .taken (e ∙ z))) (ap Refused e)
+    row-answer-told _ _ _ _ _ (rw (ne-eqb _ 0 (λ (z : frame-no (s .args .s) (length (s .args .x .now)) 4 ≡ 0). c .if1 .taken (e ∙ z))) (ap Refused e))
 
 analyse-requires : tie.Need-analyse-requires
 analyse-requires c κs = let t = fine c in (t .settings, t .samples)
@@ -50,8 +50,9 @@ returns-2 c =
     let a = c .before in
     let s = a .before .before .before in
     let t = fine (a .before) in
-    ap Analysed (c .verdict-row .ensures ∙ ap (row-from (s .args .s)) (verdict a))
-    ∙ sym (row-taken (s .args .s) (s .args .x .now) (s .args .prev-lag) (s .args .prev-corr) (t .settings) (t .samples))
+    row-answer-told _ _ _ _ _
+    (ap Analysed (c .verdict-row .ensures ∙ ap (row-from (s .args .s)) (verdict a))
+    ∙ sym (row-taken (s .args .s) (s .args .x .now) (s .args .prev-lag) (s .args .prev-corr) (t .settings) (t .samples)))
 
 pub frame-row-spec : {M : Type 1} → statement M
 frame-row-spec = tie.close (tie.spec frame-no-requires returns analyse-requires verdict-row-requires returns-2)

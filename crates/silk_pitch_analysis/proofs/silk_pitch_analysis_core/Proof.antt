@@ -11,7 +11,7 @@ use Rattle.pitch_settings.specs.Settings.{frame-length}
 use Rattle.silk_pitch_analysis.specs.declared.Verdict.{Verdict}
 use Rattle.silk_pitch_analysis.specs.declared.Answer.the-variants.{Refused, Analysed}
 use Rattle.silk_pitch_analysis.specs.Frame.{verdict-of, frame-no, outcome, analysed, frameOf}
-use Rattle.silk_pitch_analysis.specs.FrameLaws.{Carried, Taken, taken}
+use Rattle.silk_pitch_analysis.specs.FrameLaws.{Carried, Taken, taken, answer-told}
 use Rattle.silk_pitch_analysis.specs.VerdictLaws.{first-carried}
 use Rattle.silk_pitch_analysis.proofs.silk_pitch_analysis_core.Statement.{statement}
 use Rattle.silk_pitch_analysis.proofs.silk_pitch_analysis_core.Tie as tie
@@ -35,8 +35,9 @@ unfolding frameOf
 returns c =
     let s = c .before .before in
     let e = c .before .frame-no .ensures in
-    rw (ne-eqb _ 0 (λ (z : frame-no (s .args .s) (length (s .args .frame .now)) (length (s .args .pitch-out .now)) ≡ 0). c .if1 .taken (e ∙ z)))
-    (ap (λ (k : ℕ). outcome (Refused k) (s .args .pitch-out .now)) e)
+    answer-told (s .args .s) (s .args .frame .now) (s .args .pitch-out .now) (s .args .prev-lag) (s .args .prev-corr) _ _
+    (rw (ne-eqb _ 0 (λ (z : frame-no (s .args .s) (length (s .args .frame .now)) (length (s .args .pitch-out .now)) ≡ 0). c .if1 .taken (e ∙ z)))
+    (ap (λ (k : ℕ). outcome (Refused k) (s .args .pitch-out .now)) e))
 
 analyse-requires : tie.Need-analyse-requires
 analyse-requires c κs = let t = fine c in (t .settings, t .samples)
@@ -57,9 +58,10 @@ returns-2 c =
     let p = c .before in
     let a = p .before .before in
     let s = a .before .before .before in
-    rw (eq-eqb _ 0 (sym (a .before .before .frame-no .ensures) ∙ a .before .if1 .left))
+    answer-told (s .args .s) (s .args .frame .now) (s .args .pitch-out .now) (s .args .prev-lag) (s .args .prev-corr) _ _
+    (rw (eq-eqb _ 0 (sym (a .before .before .frame-no .ensures) ∙ a .before .if1 .left))
     (ap (λ (l : List ℤ). outcome (Analysed (a .analyse .result)) l) (p .put-lags .ensures)
-    ∙ ap (λ (v : Verdict). analysed (s .args .s) v (s .args .pitch-out .now)) (verdict a))
+    ∙ ap (λ (v : Verdict). analysed (s .args .s) v (s .args .pitch-out .now)) (verdict a)))
 
 pub silk-pitch-analysis-core-spec : {M : Type 1} → statement M
 silk-pitch-analysis-core-spec = tie.close (tie.spec frame-no-requires returns analyse-requires put-lags-requires same-length returns-2)
