@@ -14,19 +14,19 @@ use Rattle.silk_pitch_analysis.specs.declared.Verdict.{Verdict}
 use Rattle.silk_pitch_analysis.specs.declared.Answer.{Answer}
 use Rattle.silk_pitch_analysis.specs.declared.Answer.the-variants.{Refused}
 use Rattle.silk_pitch_analysis.specs.Frame.{Outcome, outcome, analysed, verdict-of, frame-no, frameOf}
-use Rattle.pitch_export.specs.Export.{Numbers, Exported, answered, exportOf}
+use Rattle.pitch_export.specs.Export.{Exported, answered, exportOf}
 
-pub export-is : (s : Settings) (x l : List ℤ) (prev corr : ℤ) (old : Numbers) (a : Answer) (m : List ℤ) → outcome a m ≡ frameOf s x l prev corr → answered a m old ≡ exportOf s x l prev corr old
+pub export-is : (s : Settings) (x l : List ℤ) (prev corr : ℤ) (old : List ℤ) (a : Answer) (m : List ℤ) → outcome a m ≡ frameOf s x l prev corr → answered a m old ≡ exportOf s x l prev corr old
 unfolding exportOf
 export-is s x l prev corr old a m e = ap (λ (o : Outcome). answered (o .answer) (o .lags) old) e
 
-number-by : (s : Settings) (v : Verdict) (l : List ℤ) (old : Numbers) (k : ℕ) (b : Bool) → eqb k 0 ≡ b
+number-by : (s : Settings) (v : Verdict) (l : List ℤ) (old : List ℤ) (k : ℕ) (b : Bool) → eqb k 0 ≡ b
     → answered (cond b (analysed s v l) (outcome (Refused k) l) .answer) (cond b (analysed s v l) (outcome (Refused k) l) .lags) old .number ≡ k
 unfolding analysed
 number-by s v l old k true e = sym (eqb-true k 0 e)
 number-by s v l old k false e = refl
 
 -- the number is the refusal's, and 0 where there is none
-pub export-number : (s : Settings) (x l : List ℤ) (prev corr : ℤ) (old : Numbers) → exportOf s x l prev corr old .number ≡ frame-no s (length x) (length l)
+pub export-number : (s : Settings) (x l : List ℤ) (prev corr : ℤ) (old : List ℤ) → exportOf s x l prev corr old .number ≡ frame-no s (length x) (length l)
 unfolding exportOf frameOf
 export-number s x l prev corr old = number-by s (verdict-of s (take (frame-length s) x) prev corr) l old (frame-no s (length x) (length l)) (eqb (frame-no s (length x) (length l)) 0) refl

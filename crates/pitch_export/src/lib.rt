@@ -1,6 +1,7 @@
 // The frame call for programs in C and Rust, on numbers and slices.
 ghost use mathlib.Core.Path.{_≡_};
-ghost use Rattle.pitch_export.specs.Export.{settings, numbers, verdict-numbers, exported, exportOf};
+ghost use Rattle.silk_pitch_analysis.specs.Frame.{verdict-numbers};
+ghost use Rattle.pitch_export.specs.Export.{settings, numbers, exported, exportOf};
 use pitch_settings::Settings;
 use silk_pitch_analysis::Answer;
 use silk_pitch_analysis::Verdict;

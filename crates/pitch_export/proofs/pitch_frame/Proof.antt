@@ -7,7 +7,7 @@ use Rattle.pitch_settings.specs.declared.Settings.{Settings}
 use Rattle.zint.specs.Read.{r-var}
 use Rattle.silk_pitch_analysis.specs.declared.Answer.{Answer}
 use Rattle.silk_pitch_analysis.specs.Frame.{outcome, frameOf}
-use Rattle.pitch_export.specs.Export.{Numbers, settings, numbers, exported, answered, exportOf}
+use Rattle.pitch_export.specs.Export.{settings, numbers, exported, answered, exportOf}
 use Rattle.pitch_export.specs.ExportLaws.{export-is}
 use Rattle.pitch_export.proofs.pitch_frame.Statement.{statement}
 use Rattle.pitch_export.proofs.pitch_frame.Tie as tie
@@ -23,13 +23,13 @@ module _ (c : tie.After-silk-pitch-analysis-core) where
   abbrev at-exit : List ℤ
   at-exit = c .silk-pitch-analysis-core .last .1 .0
 
-  abbrev old : Numbers
+  abbrev old : List ℤ
   old = numbers (start .args .verdict .now) (start .args .index .now) (start .args .contour .now) (start .args .correlation .now)
 
   said : outcome (c .silk-pitch-analysis-core .result) at-exit
       ≡ frameOf (s (start .args .thres1) (start .args .thres2)) (start .args .frame .now) (start .args .pitch-out .now) (start .args .prev-lag) (start .args .prev-corr)
   said =
-      c .silk-pitch-analysis-core .ensures
+      c .silk-pitch-analysis-core .ensures .0
       ∙ (λ i. frameOf (s (r-var (start .fits .thres1) .val i) (r-var (start .fits .thres2) .val i)) (start .args .frame .now) (start .args .pitch-out .now) (r-var (start .fits .prev-lag) .val i) (r-var (start .fits .prev-corr) .val i))
 
   told : answered (c .silk-pitch-analysis-core .result) at-exit old

@@ -4,7 +4,8 @@ use lib.IntN.{pos}
 use mir.Syntax.{w32}
 use mir.Val.{toZ, ofZ}
 use Rattle.zint.specs.Rules.{zneeds}
-use Rattle.pitch_export.specs.Export.{numbers, verdict-numbers}
+use Rattle.silk_pitch_analysis.specs.Frame.{verdict-numbers}
+use Rattle.pitch_export.specs.Export.{numbers}
 use Rattle.pitch_export.proofs.put_verdict.Statement.{statement}
 use Rattle.pitch_export.proofs.put_verdict.Tie as tie
 
