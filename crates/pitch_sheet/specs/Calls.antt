@@ -1,10 +1,10 @@
 -- What writing and reading a sheet say and leave, in every case (document 01, "What a call can say"). The sheet's bytes are `Sheet` of sheet_sections, the rows that it can hold `Rows`
 -- of sheet_rows, and a page's contents `Page` of sheet_page. Definitions only.
 use mathlib.Core.Bool.{Bool, cond}
-use mathlib.Core.List.{List, _++_}
+use mathlib.Core.List.{List, [], _∷_, _++_}
 use Prim.Native.Nat.{ℕ, _*_, _/_, min}
 use lib.Dec.{eqb, leb}
-use lib.IntN.{ℤ}
+use lib.IntN.{ℤ, pos}
 use lib.ListN.{length, drop}
 use Rattle.best.specs.Best.{every}
 use Rattle.pitch_settings.specs.declared.Settings.{Settings}
@@ -56,6 +56,11 @@ writeOf s n t page =
     (wrote (Written (length (sheet s (rows-of t n)))) (sheet s (rows-of t n) ++ drop (length (sheet s (rows-of t n))) page))
     (wrote (NotWritten (write-no s n t (length page))) page)
 
+-- the answer in document 01's numbers: 0 and the bytes written, or the number of the refusal
+unfoldable pub write-numbers : Wrote → List ℤ
+write-numbers (Written n) = pos 0 ∷ pos n ∷ []
+write-numbers (NotWritten k) = pos k ∷ []
+
 -- ---- reading
 
 -- the refusal of reading a page into a table, or 0: 9 the page is no sheet; 7 the table has fewer whole rows than the sheet has frames
@@ -75,3 +80,11 @@ readOf page t =
     cond (eqb (read-no page t) 0)
     (got (Read (settings-in page) (frames-in page)) (numbers-of (rows-in page) ++ drop (frames-in page * 8) t))
     (got (NotRead (read-no page t)) t)
+
+-- the answer in document 01's numbers: 0, the five settings and the frame count, or the number of the refusal
+unfoldable pub settings-numbers : Settings → List ℤ
+settings-numbers s = pos (s .rate) ∷ pos (s .nb) ∷ pos (s .complexity) ∷ s .thres1 ∷ s .thres2 ∷ []
+
+unfoldable pub read-numbers : Got → List ℤ
+read-numbers (Read s n) = pos 0 ∷ (settings-numbers s ++ (pos n ∷ []))
+read-numbers (NotRead k) = pos k ∷ []

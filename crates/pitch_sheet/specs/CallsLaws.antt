@@ -2,14 +2,15 @@
 -- Assumes nothing.
 use mathlib.Core.Path.{_≡_, refl, sym, ap, _∙_}
 use mathlib.Core.Bool.{Bool, true, false, cond, false≢true}
-use mathlib.Core.List.{List, _++_}
+use mathlib.Core.List.{List, [], _∷_, _++_}
 use Prim.Native.Nat.{ℕ, _+_, _*_, _≤_, _<_, min}
 use native.Mathlib.Omega.{arith}
 use borrow.Author.Tests.{eq-eqb, ne-eqb, le-leb, lt-leb, eqb-true, leb-true}
 use lib.Dec.{eqb, leb}
-use lib.IntN.{ℤ}
+use lib.IntN.{ℤ, pos}
 use lib.ListN.{length, drop}
 use lib.Seq.{sets, sets-eq}
+use Rattle.answers.specs.Answer.{answer-numbers}
 use Rattle.best.specs.BestLaws.{every-true, every-false}
 use Rattle.lists.specs.Fill.{length-table}
 use Rattle.pitch_settings.specs.declared.Settings.{Settings}
@@ -19,9 +20,11 @@ use Rattle.sheet_rows.specs.Rows.{row-holds}
 use Rattle.sheet_sections.specs.Sheet.{sheet, rows-of}
 use Rattle.sheet_page.specs.Page.{settings-in, frames-in, well-formed, page-no, row-in, held, rows-in, numbers-of}
 use Rattle.sheet_page.specs.PageLaws.{numbers-length}
+use Rattle.pitch_sheet.specs.declared.Wrote.{Wrote}
 use Rattle.pitch_sheet.specs.declared.Wrote.the-variants.{Written, Refused as NotWritten}
+use Rattle.pitch_sheet.specs.declared.Got.{Got}
 use Rattle.pitch_sheet.specs.declared.Got.the-variants.{Read, Refused as NotRead}
-use Rattle.pitch_sheet.specs.Calls.{whole-rows, rows-hold, write-no, wrote, writeOf, read-no, got, readOf}
+use Rattle.pitch_sheet.specs.Calls.{whole-rows, rows-hold, write-no, WriteOutcome, wrote, writeOf, write-numbers, read-no, ReadOutcome, got, readOf, settings-numbers, read-numbers}
 
 -- ---- rows
 
@@ -112,6 +115,18 @@ module _ (s : Settings) (n : ℕ) (t : List ℤ) (page : List ℕ) where
   unfolding writeOf
   write-done e = rw (eq-eqb (write-no s n t (length page)) 0 e)
 
+  -- the answer with its numbers
+  pub write-answer : {r : Wrote} {after : List ℕ} → wrote r after ≡ writeOf s n t page
+      → (wrote r after ≡ writeOf s n t page) × (write-numbers r ≡ answer-numbers (write-no s n t (length page)) (pos (length (sheet s (rows-of t n))) ∷ []))
+  unfolding writeOf write-numbers
+  write-answer e = (e, ap (λ (o : WriteOutcome). write-numbers (o .answer)) e ∙ by (eqb (write-no s n t (length page)) 0) refl)
+    where
+      by : (b : Bool) → eqb (write-no s n t (length page)) 0 ≡ b
+          → write-numbers (cond b (wrote (Written (length (sheet s (rows-of t n)))) (sheet s (rows-of t n) ++ drop (length (sheet s (rows-of t n))) page)) (wrote (NotWritten (write-no s n t (length page))) page) .answer)
+          ≡ pos (write-no s n t (length page)) ∷ cond b (pos (length (sheet s (rows-of t n))) ∷ []) []
+      by true q = rw (eqb-true (write-no s n t (length page)) 0 q)
+      by false q = refl
+
 -- ---- reading
 
 module _ (page : List ℕ) where
@@ -139,6 +154,18 @@ module _ (page : List ℕ) (t : List ℤ) where
   pub read-done : page-no page ≡ 0 → frames-in page ≤ whole-rows t → readOf page t ≡ got (Read (settings-in page) (frames-in page)) (numbers-of (rows-in page) ++ drop (frames-in page * 8) t)
   unfolding readOf read-no
   read-done e h = rw (eq-eqb (page-no page) 0 e, le-leb (frames-in page) (whole-rows t) h)
+
+  -- the answer with its numbers
+  pub read-answer : {r : Got} {after : List ℤ} → got r after ≡ readOf page t
+      → (got r after ≡ readOf page t) × (read-numbers r ≡ answer-numbers (read-no page t) (settings-numbers (settings-in page) ++ (pos (frames-in page) ∷ [])))
+  unfolding readOf read-numbers
+  read-answer e = (e, ap (λ (o : ReadOutcome). read-numbers (o .answer)) e ∙ by (eqb (read-no page t) 0) refl)
+    where
+      by : (b : Bool) → eqb (read-no page t) 0 ≡ b
+          → read-numbers (cond b (got (Read (settings-in page) (frames-in page)) (numbers-of (rows-in page) ++ drop (frames-in page * 8) t)) (got (NotRead (read-no page t)) t) .answer)
+          ≡ pos (read-no page t) ∷ cond b (settings-numbers (settings-in page) ++ (pos (frames-in page) ∷ [])) []
+      by true q = rw (eqb-true (read-no page t) 0 q)
+      by false q = refl
 
 -- stores at the front, as the bytes and then the rest
 pub front : {A : Type 0} (l xs : List A) → length xs ≤ length l → sets l 0 xs ≡ xs ++ drop (length xs) l

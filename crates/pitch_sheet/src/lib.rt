@@ -1,10 +1,14 @@
 // The sheet: a track's settings and rows as bytes, written and read back. Neither call has a `requires`.
+ghost use mathlib.Core.List.{[], _∷_, _++_};
 ghost use mathlib.Core.Path.{_≡_};
 ghost use Prim.Native.Nat.{_*_, _≤_};
+ghost use lib.IntN.{pos};
 ghost use lib.ListN.{length};
+ghost use Rattle.answers.specs.Answer.{answer-numbers};
 ghost use Rattle.pitch_settings.specs.Settings.{settings-no};
-ghost use Rattle.sheet_sections.specs.Sheet.{sheet-length};
-ghost use Rattle.pitch_sheet.specs.Calls.{rows-hold, write-no, wrote, writeOf, got, readOf};
+ghost use Rattle.sheet_sections.specs.Sheet.{sheet, rows-of, sheet-length};
+ghost use Rattle.sheet_page.specs.Page.{settings-in, frames-in};
+ghost use Rattle.pitch_sheet.specs.Calls.{rows-hold, write-no, wrote, writeOf, write-numbers, read-no, got, readOf, settings-numbers, read-numbers};
 use pitch_settings::Settings;
 use pitch_settings::settings_no;
 use pitch_table::get_row;
@@ -79,6 +83,7 @@ fn write_no(s: Settings, frames: usize, table: &[i32], room: usize) -> usize
 // Writes the sheet of the first rows at the front of the page.
 pub fn write_sheet(s: Settings, frames: usize, table: &[i32], page: &mut [u8]) -> Wrote
     ensures { λ r. ⌜ wrote r (now (page .exit)) ≡ writeOf s frames (now (table .entry)) (now (page .entry)) ⌝ }
+    ensures { λ r. ⌜ write-numbers r ≡ answer-numbers (write-no s frames (now (table .entry)) (length (now (page .entry)))) (pos (length (sheet s (rows-of (now (table .entry)) frames))) ∷ []) ⌝ }
 {
     let no = write_no(s, frames, table, page.len());
     if no != 0 {
@@ -92,6 +97,7 @@ pub fn write_sheet(s: Settings, frames: usize, table: &[i32], page: &mut [u8]) -
 // Reads the page's sheet, which must be the whole page, into the first rows of the table.
 pub fn read_sheet(page: &[u8], table: &mut [i32]) -> Got
     ensures { λ r. ⌜ got r (now (table .exit)) ≡ readOf (now (page .entry)) (now (table .entry)) ⌝ }
+    ensures { λ r. ⌜ read-numbers r ≡ answer-numbers (read-no (now (page .entry)) (now (table .entry))) (settings-numbers (settings-in (now (page .entry))) ++ (pos (frames-in (now (page .entry))) ∷ [])) ⌝ }
 {
     let no = page_no(page);
     if no != 0 {

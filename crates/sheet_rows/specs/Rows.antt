@@ -1,5 +1,6 @@
 -- Rows that a sheet can hold (document 01, "Track" and "Sheet"). fs is the rate in kHz. Definitions only; the laws are in `RowsLaws`.
 use mathlib.Core.Bool.{Bool, false, _&&_, _||_, cond}
+use mathlib.Core.List.{List, [], _∷_}
 use Prim.Native.Nat.{ℕ}
 use lib.Dec.{ltb}
 use lib.IntN.{ℤ, pos, natAbs}
@@ -7,6 +8,7 @@ use Rattle.zint.specs.Equal.{eqZ}
 use Rattle.silk_tables.specs.Rebuild.{rebuilt, carried}
 use Rattle.pitch_settings.specs.declared.Settings.{Settings}
 use Rattle.pitch_table.specs.declared.Row.{Row}
+use Rattle.pitch_table.specs.Row.{numbers}
 use Rattle.sheet_rows.specs.declared.RowRead.{RowRead}
 use Rattle.sheet_rows.specs.declared.RowRead.the-variants.{Held, Bad}
 
@@ -40,6 +42,20 @@ row-of s verdict index contour correlation =
     cond (eqZ verdict (pos 0))
     (cond (carried (s .rate) (s .nb) (s .complexity) index contour) (Held (voiced-row s index contour correlation)) Bad)
     (cond (eqZ verdict (pos 1) || eqZ verdict (pos 2)) (Held (quiet-row verdict)) Bad)
+
+-- the same answer in document 01's numbers: 0 and the row's eight numbers where they stand for a row, 9 (malformed) where they stand for none
+unfoldable pub row-read-numbers : RowRead → List ℤ
+row-read-numbers (Held r) = pos 0 ∷ numbers r
+row-read-numbers Bad = pos 9 ∷ []
+
+-- 0 where a verdict and a pair stand for a row, else 9
+unfoldable pub row-no : Settings → ℤ → ℤ → ℤ → ℕ
+row-no s verdict index contour =
+    cond (eqZ verdict (pos 0)) (cond (carried (s .rate) (s .nb) (s .complexity) index contour) 0 9) (cond (eqZ verdict (pos 1) || eqZ verdict (pos 2)) 0 9)
+
+-- the eight numbers of the row that they stand for
+unfoldable pub row-values : Settings → ℤ → ℤ → ℤ → ℤ → List ℤ
+row-values s verdict index contour correlation = numbers (cond (eqZ verdict (pos 0)) (voiced-row s index contour correlation) (quiet-row verdict))
 
 -- four numbers are the same as four others
 unfoldable pub same-four : ℤ → ℤ → ℤ → ℤ → ℤ → ℤ → ℤ → ℤ → Bool

@@ -7,6 +7,7 @@ use Prim.Native.Nat.{ℕ, _≤_, _<_}
 use native.Mathlib.Omega.{arith}
 use borrow.Author.Tests.{lt-ltb, le-ltb}
 use lib.IntN.{ℤ, pos, natAbs}
+use Rattle.answers.specs.Answer.{answer-numbers}
 use Rattle.zint.specs.Bound.{abs-ud}
 use Rattle.zint.specs.Diff.{of-le, of-lt, nonneg-dn, zarith}
 use Rattle.zint.specs.Shift.{nonneg-abs}
@@ -21,9 +22,10 @@ use Rattle.pitch_settings.specs.declared.Settings.{Settings}
 use Rattle.pitch_settings.specs.Settings.{settings-no}
 use Rattle.pitch_settings.specs.SettingsLaws.{accepted}
 use Rattle.pitch_table.specs.declared.Row.{Row}
+use Rattle.pitch_table.specs.Row.{numbers}
 use Rattle.sheet_rows.specs.declared.RowRead.{RowRead}
 use Rattle.sheet_rows.specs.declared.RowRead.the-variants.{Held, Bad}
-use Rattle.sheet_rows.specs.Rows.{lag-place, voiced-row, quiet-row, row-of, same-four, same-row, same-as, row-holds}
+use Rattle.sheet_rows.specs.Rows.{lag-place, voiced-row, quiet-row, row-of, row-read-numbers, row-no, row-values, same-four, same-row, same-as, row-holds}
 
 -- accepted settings, as the contour tables have them
 pub tables-accept : (s : Settings) → settings-no s ≡ 0 → Accepted (s .rate) (s .nb) (s .complexity)
@@ -60,6 +62,21 @@ module _ (s : Settings) (index contour correlation : ℤ) where
   pub row-none : {verdict : ℤ} → (verdict ≡ pos 0 → ⊥) → (verdict ≡ pos 1 → ⊥) → (verdict ≡ pos 2 → ⊥) → row-of s verdict index contour correlation ≡ Bad
   unfolding row-of
   row-none f g h = rw (eqZ-no f, eqZ-no g, eqZ-no h)
+
+-- ---- the answer in numbers
+
+module _ (s : Settings) (verdict index contour correlation : ℤ) {r : RowRead} where
+  pub row-answer : r ≡ row-of s verdict index contour correlation → (r ≡ row-of s verdict index contour correlation) × (row-read-numbers r ≡ answer-numbers (row-no s verdict index contour) (row-values s verdict index contour correlation))
+  unfolding row-of row-read-numbers row-no row-values
+  row-answer e = (e, ap row-read-numbers e ∙ by (eqZ verdict (pos 0)) (carried (s .rate) (s .nb) (s .complexity) index contour) (eqZ verdict (pos 1) || eqZ verdict (pos 2)))
+    where
+      by : (a b c : Bool)
+          → row-read-numbers (cond a (cond b (Held (voiced-row s index contour correlation)) Bad) (cond c (Held (quiet-row verdict)) Bad))
+          ≡ answer-numbers (cond a (cond b 0 9) (cond c 0 9)) (numbers (cond a (voiced-row s index contour correlation) (quiet-row verdict)))
+      by true true c = refl
+      by true false c = refl
+      by false b true = refl
+      by false b false = refl
 
 -- ---- rows that are the same
 

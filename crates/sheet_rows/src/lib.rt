@@ -1,9 +1,10 @@
 // Rows that a sheet can hold: the row that a verdict, a pair and a correlation stand for, and whether a row is one of those.
 ghost use mathlib.Core.Path.{_≡_};
 ghost use mathlib.Core.Bool.{true};
+ghost use Rattle.answers.specs.Answer.{answer-numbers};
 ghost use Rattle.silk_tables.specs.Rebuild.{carried};
 ghost use Rattle.pitch_settings.specs.Settings.{settings-no};
-ghost use Rattle.sheet_rows.specs.Rows.{lag-place, voiced-row, quiet-row, row-of, same-four, same-row, row-holds};
+ghost use Rattle.sheet_rows.specs.Rows.{lag-place, voiced-row, quiet-row, row-of, row-read-numbers, row-no, row-values, same-four, same-row, row-holds};
 use pitch_settings::Settings;
 use pitch_table::Row;
 use silk_tables::rebuild::lag_of;
@@ -62,6 +63,7 @@ fn quiet_row(verdict: i32) -> Row
 pub fn row_of(s: Settings, verdict: i32, index: i32, contour: i32, correlation: i32) -> RowRead
     requires { ⌜ settings-no s ≡ 0 ⌝ }
     ensures { λ r. ⌜ r ≡ row-of s verdict index contour correlation ⌝ }
+    ensures { λ r. ⌜ row-read-numbers r ≡ answer-numbers (row-no s verdict index contour) (row-values s verdict index contour correlation) ⌝ }
 {
     if verdict == 0 {
         if pair_carried(s.rate, s.nb, s.complexity, index, contour) {

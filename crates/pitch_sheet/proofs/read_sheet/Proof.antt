@@ -9,7 +9,7 @@ use Rattle.sheet_page.specs.Page.{frames-in, page-no, rows-in, numbers-of}
 use Rattle.sheet_page.specs.PageLaws.{good-tests}
 use Rattle.pitch_sheet.specs.declared.Got.the-variants.{Read, Refused as NotRead}
 use Rattle.pitch_sheet.specs.Calls.{whole-rows, got}
-use Rattle.pitch_sheet.specs.CallsLaws.{page-sheet, read-malformed, read-short, read-done, rows-in-length, front}
+use Rattle.pitch_sheet.specs.CallsLaws.{page-sheet, read-malformed, read-short, read-done, read-answer, rows-in-length, front}
 use borrow.Author.Needs.{needs}
 use Rattle.pitch_sheet.proofs.read_sheet.Statement.{statement}
 use Rattle.pitch_sheet.proofs.read_sheet.Tie as tie
@@ -21,7 +21,7 @@ returns : tie.Need-returns
 returns c =
     let a = c .before .before .before .args in
     let e = c .before .page-no .ensures in
-    ap (λ (n : ℕ). got (NotRead n) (a .table .now)) e ∙ sym (read-malformed (a .page .now) (a .table .now) (λ z. c .if1 .taken (e ∙ z)))
+    read-answer (a .page .now) (a .table .now) (ap (λ (n : ℕ). got (NotRead n) (a .table .now)) e ∙ sym (read-malformed (a .page .now) (a .table .now) (λ z. c .if1 .taken (e ∙ z))))
 
 sound : (c : tie.Else1) → page-no (c .before .before .before .args .page .now) ≡ 0
 sound c = sym (c .before .page-no .ensures) ∙ c .if1 .left
@@ -35,7 +35,7 @@ head-of-requires c κs = let p = c .before .before .before .args .page .now in g
 returns-2 : tie.Need-returns-2
 returns-2 c =
     let a = c .before .before .before .before .before .args in
-    sym (read-short (a .page .now) (a .table .now) (sound (c .before .before)) (omega (arith, c .if2 .taken, frames-are (c .before))))
+    read-answer (a .page .now) (a .table .now) (sym (read-short (a .page .now) (a .table .now) (sound (c .before .before)) (omega (arith, c .if2 .taken, frames-are (c .before)))))
 
 put-rows-requires : tie.Need-put-rows-requires
 put-rows-requires c κs =
@@ -55,7 +55,7 @@ returns-3 c =
     let l = rows-in-length p in
     let e : c .before .before .put-rows .last .1 .1 .0 ≡ numbers-of (rows-in p) ++ drop (frames-in p * 8) t =
     c .before .before .put-rows .ensures ∙ front t (numbers-of (rows-in p)) (omega arith) ∙ ap (λ (k : ℕ). numbers-of (rows-in p) ++ drop k t) l in
-    (λ i. got (Read (h i .settings) (h i .frames)) (e i)) ∙ sym (read-done p t (sound (c .before .before .before .before .before .before)) n)
+    read-answer p t ((λ i. got (Read (h i .settings) (h i .frames)) (e i)) ∙ sym (read-done p t (sound (c .before .before .before .before .before .before)) n))
 
 pub read-sheet-spec : {M : Type 1} → statement M
 read-sheet-spec =

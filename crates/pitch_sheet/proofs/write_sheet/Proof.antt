@@ -6,7 +6,7 @@ use Prim.Native.Nat.{ℕ}
 use lib.ListN.{length}
 use Rattle.pitch_sheet.specs.declared.Wrote.the-variants.{Written, Refused as NotWritten}
 use Rattle.pitch_sheet.specs.Calls.{wrote}
-use Rattle.pitch_sheet.specs.CallsLaws.{Accepted, accepted, write-refused, write-done, front}
+use Rattle.pitch_sheet.specs.CallsLaws.{Accepted, accepted, write-refused, write-done, write-answer, front}
 use borrow.Author.Needs.{needs}
 use Rattle.pitch_sheet.proofs.write_sheet.Statement.{statement}
 use Rattle.pitch_sheet.proofs.write_sheet.Tie as tie
@@ -21,7 +21,8 @@ returns : tie.Need-returns
 returns c =
     let a = c .before .before .before .args in
     let e = c .before .write-no .ensures in
-    ap (λ (n : ℕ). wrote (NotWritten n) (a .page .now)) e ∙ sym (write-refused (a .s) (a .frames) (a .table .now) (a .page .now) (λ z. c .if1 .taken (e ∙ z)))
+    write-answer (a .s) (a .frames) (a .table .now) (a .page .now)
+    (ap (λ (n : ℕ). wrote (NotWritten n) (a .page .now)) e ∙ sym (write-refused (a .s) (a .frames) (a .table .now) (a .page .now) (λ z. c .if1 .taken (e ∙ z))))
 
 voiced-rows-requires : tie.Need-voiced-rows-requires
 voiced-rows-requires c κs = told c .whole
@@ -40,7 +41,8 @@ returns-2 c =
     let put = c .before .before .put-sheet .ensures in
     let n : c .before .before .put-sheet .result ≡ length bytes = omega (arith, put .ends) in
     let p = put .holds ∙ front (a .page .now) bytes (told q .fits) in
-    (λ i. wrote (Written (n i)) (p i)) ∙ sym (write-done (a .s) (a .frames) (a .table .now) (a .page .now) (sym (q .before .write-no .ensures) ∙ q .if1 .left))
+    write-answer (a .s) (a .frames) (a .table .now) (a .page .now)
+    ((λ i. wrote (Written (n i)) (p i)) ∙ sym (write-done (a .s) (a .frames) (a .table .now) (a .page .now) (sym (q .before .write-no .ensures) ∙ q .if1 .left)))
 
 pub write-sheet-spec : {M : Type 1} → statement M
 write-sheet-spec =

@@ -65,7 +65,7 @@ returns c =
     let p = s .args .page .now in
     let b = verdict-in p (s .args .i) in
     let l : b < 256 = omega (arith, c .before .before .shared-slice-known2 .given (28 + s .args .i)) in
-    c .row-of .ensures
+    c .row-of .ensures .0
     ∙ ap₂ (λ (x : Settings) (v : ℤ). row-of x v (pos 0) (pos 0) (pos 0)) (ap (λ (h : Head). h .settings) (s .pre .2)) (toZ-pos w32 b (omega arith))
     ∙ sym (row-quiet p (s .args .i) (c .before .if1 .taken))
 
@@ -128,7 +128,7 @@ returns-2 c =
     let l : getD p place 0 < 256 = omega (arith, c .before .before .shared-slice-known3 .given place) in
     let j : toZ w32 (getD p place 0) ≡ pos (getD p (pair-place p i + 2) 0) = toZ-pos w32 (getD p place 0) (omega arith) ∙ ap (λ (m : ℕ). pos (getD p (m + 2) 0)) (pair-at q) in
     let k : toZ w32 (ofZ w32 (c .before .i32-at .result)) ≡ signed-at p (correlation-place p i) = r-got w32 (c .before .i32-at .ok) (c .before .i32-at .ensures) .val ∙ ap (signed-at p) (correlation-at q) in
-    c .row-of2 .ensures
+    c .row-of2 .ensures .0
     ∙ (λ t. row-of (a t) (pos 0) (n t) (j t) (k t))
     ∙ sym (row-voiced p (s .args .i) (q .if1 .left))
 

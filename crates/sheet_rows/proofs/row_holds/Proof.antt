@@ -11,7 +11,7 @@ known : (c : tie.After-row-of) → c .row-of .result ≡ row-of (c .before .befo
 known c =
     let r = c .before .before .before .before .before .args .r in
     let g = c .before .before .before .before .struct-told .given in
-    c .row-of .ensures ∙ simp (r-elem w32 (r .verdict) (g .0 .1) .val, r-elem w32 (r .index) (g .1 .0 .1) .val, r-elem w32 (r .contour) (g .1 .1 .0 .1) .val, r-elem w32 (r .correlation) (g .1 .1 .1 .0 .1) .val)
+    c .row-of .ensures .0 ∙ simp (r-elem w32 (r .verdict) (g .0 .1) .val, r-elem w32 (r .index) (g .1 .0 .1) .val, r-elem w32 (r .contour) (g .1 .1 .0 .1) .val, r-elem w32 (r .correlation) (g .1 .1 .1 .0 .1) .val)
 
 row-of-requires : tie.Need-row-of-requires
 row-of-requires c κs = c .before .before .before .before .pre

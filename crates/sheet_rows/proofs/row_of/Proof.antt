@@ -10,7 +10,7 @@ use Rattle.zint.specs.Read.{r-var}
 use Rattle.silk_tables.specs.Rebuild.{carried}
 use Rattle.sheet_rows.specs.declared.RowRead.the-variants.{Held}
 use Rattle.sheet_rows.specs.Rows.{voiced-row, quiet-row}
-use Rattle.sheet_rows.specs.RowsLaws.{tables-accept, row-voiced, row-not-carried, row-unvoiced, row-zero-divisor, row-none}
+use Rattle.sheet_rows.specs.RowsLaws.{tables-accept, row-voiced, row-not-carried, row-unvoiced, row-zero-divisor, row-none, row-answer}
 use Rattle.sheet_rows.proofs.row_of.Statement.{statement}
 use Rattle.sheet_rows.proofs.row_of.Tie as tie
 
@@ -36,13 +36,15 @@ returns c =
     let a = s .args in
     let e : c .voiced-row .result ≡ voiced-row (a .s) (a .index) (a .contour) (a .correlation) =
     c .voiced-row .ensures ∙ simp (r-var (s .fits .index) .val, r-var (s .fits .contour) .val, r-var (s .fits .correlation) .val) in
-    ap Held e ∙ sym (row-voiced (a .s) (a .index) (a .contour) (a .correlation) (verdict-is s 0 (omega arith) (q .before .before .if1 .taken)) (sym (asked (q .before)) ∙ q .if2 .taken))
+    row-answer (a .s) (a .verdict) (a .index) (a .contour) (a .correlation)
+    (ap Held e ∙ sym (row-voiced (a .s) (a .index) (a .contour) (a .correlation) (verdict-is s 0 (omega arith) (q .before .before .if1 .taken)) (sym (asked (q .before)) ∙ q .if2 .taken)))
 
 returns-2 : tie.Need-returns-2
 returns-2 c =
     let s = c .before .before .before in
     let a = s .args in
-    sym (row-not-carried (a .s) (a .index) (a .contour) (a .correlation) (verdict-is s 0 (omega arith) (c .before .before .if1 .taken)) (sym (asked (c .before)) ∙ c .if2 .left))
+    row-answer (a .s) (a .verdict) (a .index) (a .contour) (a .correlation)
+    (sym (row-not-carried (a .s) (a .index) (a .contour) (a .correlation) (verdict-is s 0 (omega arith) (c .before .before .if1 .taken)) (sym (asked (c .before)) ∙ c .if2 .left)))
 
 quiet-row-requires : tie.Need-quiet-row-requires
 quiet-row-requires c κs = tt
@@ -51,7 +53,8 @@ returns-3 : tie.Need-returns-3
 returns-3 c =
     let s = c .before .before .before in
     let a = s .args in
-    ap Held (c .quiet-row .ensures ∙ ap quiet-row (r-var (s .fits .verdict) .val)) ∙ sym (row-unvoiced (a .s) (a .index) (a .contour) (a .correlation) (verdict-is s 1 (omega arith) (c .before .if3 .taken)))
+    row-answer (a .s) (a .verdict) (a .index) (a .contour) (a .correlation)
+    (ap Held (c .quiet-row .ensures ∙ ap quiet-row (r-var (s .fits .verdict) .val)) ∙ sym (row-unvoiced (a .s) (a .index) (a .contour) (a .correlation) (verdict-is s 1 (omega arith) (c .before .if3 .taken))))
 
 quiet-row-requires-2 : tie.Need-quiet-row-requires-2
 quiet-row-requires-2 c κs = tt
@@ -60,14 +63,16 @@ returns-4 : tie.Need-returns-4
 returns-4 c =
     let s = c .before .before .before .before in
     let a = s .args in
-    ap Held (c .quiet-row2 .ensures ∙ ap quiet-row (r-var (s .fits .verdict) .val)) ∙ sym (row-zero-divisor (a .s) (a .index) (a .contour) (a .correlation) (verdict-is s 2 (omega arith) (c .before .if4 .taken)))
+    row-answer (a .s) (a .verdict) (a .index) (a .contour) (a .correlation)
+    (ap Held (c .quiet-row2 .ensures ∙ ap quiet-row (r-var (s .fits .verdict) .val)) ∙ sym (row-zero-divisor (a .s) (a .index) (a .contour) (a .correlation) (verdict-is s 2 (omega arith) (c .before .if4 .taken))))
 
 returns-5 : tie.Need-returns-5
 returns-5 c =
     let q = c .before in
     let s = q .before .before in
     let a = s .args in
-    sym (row-none (a .s) (a .index) (a .contour) (a .correlation) (λ e. q .before .if1 .left (ap (ofZ w32) e)) (λ e. q .if3 .left (ap (ofZ w32) e)) (λ e. c .if4 .left (ap (ofZ w32) e)))
+    row-answer (a .s) (a .verdict) (a .index) (a .contour) (a .correlation)
+    (sym (row-none (a .s) (a .index) (a .contour) (a .correlation) (λ e. q .before .if1 .left (ap (ofZ w32) e)) (λ e. q .if3 .left (ap (ofZ w32) e)) (λ e. c .if4 .left (ap (ofZ w32) e))))
 
 pub row-of-spec : {M : Type 1} → statement M
 row-of-spec =
