@@ -27,7 +27,8 @@ use Rattle.silk_tables.specs.CarriedLaws.{Carried as CarriedPair, accepted-of, 
 use Rattle.silk_signals.specs.Signals.{eight, four}
 use Rattle.silk_signals.specs.SignalLaws.{length-eight, length-four}
 use Rattle.silk_stage3.specs.Stage3.{stage3, Handed}
-use Rattle.silk_stage3.specs.Theorem.{Meaning, stage3-means}
+use Rattle.silk_stage3.specs.Meaning.{Meaning}
+use Rattle.silk_stage3.specs.Theorem.{stage3-means}
 use Rattle.silk_stage3.specs.declared.Found.the-variants.{Pair}
 use Rattle.silk_pitch_analysis.specs.declared.Verdict.{Verdict}
 use Rattle.silk_pitch_analysis.specs.declared.Verdict.the-variants.{Voiced, Unvoiced, ZeroDivisor}

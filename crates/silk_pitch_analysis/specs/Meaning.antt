@@ -11,8 +11,8 @@ use Rattle.pitch_settings.specs.declared.Settings.{Settings}
 use Rattle.silk_signals.specs.Scale.{scaled}
 use Rattle.silk_stage1.specs.Stage1.{score1, kept}
 use Rattle.silk_stage1.specs.Meaning.{Lag, ZeroReached as ZeroReached1}
-use Rattle.silk_stage2.specs.Theorem.{ZeroReached as ZeroReached2, Passes, Wins}
-use Rattle.silk_stage3.specs.Theorem.{ZeroReached as ZeroReached3, BestPair, Candidate}
+use Rattle.silk_stage2.specs.Meaning.{ZeroReached as ZeroReached2, Passes, Wins}
+use Rattle.silk_stage3.specs.Meaning.{ZeroReached as ZeroReached3, BestPair, Candidate}
 use Rattle.silk_pitch_analysis.specs.declared.Verdict.{Verdict}
 use Rattle.silk_pitch_analysis.specs.declared.Verdict.the-variants.{Voiced, Unvoiced, ZeroDivisor}
 use Rattle.silk_pitch_analysis.specs.Frame.{signal8, signal4, scaled-lag, verdict-of}

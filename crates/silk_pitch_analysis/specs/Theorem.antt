@@ -21,11 +21,13 @@ use Rattle.silk_stage1.specs.Theorem.{zero-where, zero-only, unvoiced-only, unv
 use Rattle.silk_stage1.specs.declared.Screen.{Screen}
 use Rattle.silk_stage1.specs.declared.Screen.the-variants.{ZeroDivisor as Zeroed, Unvoiced as Low, Goes}
 use Rattle.silk_stage2.specs.Stage2.{stage2}
-use Rattle.silk_stage2.specs.Theorem.{Meaning as Meaning2, stage2-means, stage2-only}
+use Rattle.silk_stage2.specs.Meaning.{Meaning as Meaning2}
+use Rattle.silk_stage2.specs.Theorem.{stage2-means, stage2-only}
 use Rattle.silk_stage2.specs.declared.Stage2.{Stage2}
 use Rattle.silk_stage2.specs.declared.Stage2.the-variants.{ZeroDivisor as ZeroIn2, Unvoiced as NoWinner, Winner}
 use Rattle.silk_stage3.specs.Stage3.{stage3}
-use Rattle.silk_stage3.specs.Theorem.{Meaning as Meaning3, stage3-means, stage3-only}
+use Rattle.silk_stage3.specs.Meaning.{Meaning as Meaning3}
+use Rattle.silk_stage3.specs.Theorem.{stage3-means, stage3-only}
 use Rattle.silk_stage3.specs.declared.Found.{Found}
 use Rattle.silk_stage3.specs.declared.Found.the-variants.{Pair, ZeroDivisor as ZeroIn3}
 use Rattle.silk_pitch_analysis.specs.declared.Verdict.{Verdict}

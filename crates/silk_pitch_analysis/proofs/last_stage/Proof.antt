@@ -21,7 +21,7 @@ use Rattle.silk_pitch_analysis.proofs.last_stage.Tie as tie
 
 -- stage 3's answer, of the scaled winner
 found : (c : tie.After-silk-stage3) → c .silk-stage3 .result ≡ stage3 (c .before .before .args .w .now) (c .before .before .args .s .rate) (c .before .before .args .s .nb) (c .before .before .args .s .complexity) (c .before .before .args .lag * c .before .before .args .s .rate / 8)
-found c = c .silk-stage3 .ensures
+found c = c .silk-stage3 .ensures .0
 
 -- the last stage is stage 3
 last : (c : tie.After-silk-stage3) (x : Found) → c .silk-stage3 .result ≡ x

@@ -26,7 +26,7 @@ answer : (c : tie.After-silk-stage2) → c .silk-stage2 .result ≡ said c
 answer c =
     let s = c .before .before .before in
     let a = s .args in
-    c .silk-stage2 .ensures
+    c .silk-stage2 .ensures .0
     ∙ (λ i. stage2 (a .e .now) (a .kept .now) (a .s .rate) (a .s .nb) (a .s .complexity) (r-elem w32 (a .s .thres2) (c .before .struct-told .given .1 .1 .1 .1 .0 .1) .val i) (r-var (s .fits .prev-lag) .val i) (r-var (s .fits .prev-corr) .val i))
 
 silk-stage2-requires : tie.Need-silk-stage2-requires

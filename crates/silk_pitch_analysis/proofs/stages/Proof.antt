@@ -36,7 +36,7 @@ module _ (c : tie.After-silk-stage1) where
   lags = kept (start .args .f .now) (start .args .s .nb) (start .args .s .complexity) (start .args .s .thres1)
 
   answer : c .silk-stage1 .result ≡ first
-  answer = c .silk-stage1 .ensures ∙ ap (stage1 (start .args .f .now) (start .args .s .nb) (start .args .s .complexity)) (r-elem w32 (start .args .s .thres1) (c .before .struct-told .given .1 .1 .1 .0 .1) .val)
+  answer = c .silk-stage1 .ensures .0 ∙ ap (stage1 (start .args .f .now) (start .args .s .nb) (start .args .s .complexity)) (r-elem w32 (start .args .s .thres1) (c .before .struct-told .given .1 .1 .1 .0 .1) .val)
 
   size : length (c .silk-stage1 .result .lags) ≡ 8
   size = ap (λ (a : Stage1). length (a .lags)) answer ∙ answer-size (start .args .f .now) (start .args .s .nb) (start .args .s .complexity) (start .args .s .thres1) few

@@ -21,7 +21,7 @@ use Rattle.silk_stage3.proofs.consider.Tie as tie
 divided : (c : tie.After-silk-div32-varq) → c .silk-div32-varq .result ≡ quotient-of (c .before .before .args .cross-corr) (c .before .before .args .energy)
 divided c =
     let f = c .before .before .fits in
-    c .silk-div32-varq .ensures ∙ ap₂ quotient-of (r-var (f .cross-corr) .val) (r-var (f .energy) .val)
+    c .silk-div32-varq .ensures .0 ∙ ap₂ quotient-of (r-var (f .cross-corr) .val) (r-var (f .energy) .val)
 
 positive : (c : tie.Then1) → ltZ (pos 0) (c .before .args .cross-corr) ≡ true
 positive c = t-above (pos 0) (r-var (c .before .fits .cross-corr)) (c .if1 .taken)

@@ -29,7 +29,7 @@ positive c = t-above (pos 0) (r-var (c .before .fits .cross-corr)) (c .if1 .take
 divided : (c : tie.After-silk-div32-varq) → c .silk-div32-varq .result ≡ quotient (c .before .before .args .cross-corr) (c .before .before .args .norm) (pos 14)
 divided c =
     let f = c .before .before .fits in
-    c .silk-div32-varq .ensures ∙ ap₂ (λ (x y : ℤ). quotient x y (pos 14)) (r-var (f .cross-corr) .val) (r-var (f .norm) .val)
+    c .silk-div32-varq .ensures .0 ∙ ap₂ (λ (x y : ℤ). quotient x y (pos 14)) (r-var (f .cross-corr) .val) (r-var (f .norm) .val)
 
 returns : tie.Need-returns
 returns c = ratio-zero _ _ (positive (c .before .before .before)) (sym (divided (c .before .before)) ∙ c .enum-told .given .1)
