@@ -1,4 +1,4 @@
--- The two cases of `deliverOf`.
+-- The number that a start says, and the two cases of `deliverOf`.
 use Prim.Native.Nat.{ℕ, _+_, _-_, _*_}
 use mathlib.Core.Path.{_≡_, refl, sym, ap, _∙_}
 use mathlib.Core.List.{List, _++_}
@@ -6,12 +6,24 @@ use lib.IntN.{ℤ}
 use native.Mathlib.Omega.{arith}
 use lib.ListN.{length, take, drop, length-drop}
 use lib.Seq.{take-all}
-use borrow.Author.Tests.{eq-eqb, ne-eqb}
+use mathlib.Core.Bool.{Bool, true, false, cond}
+use lib.Dec.{eqb}
+use borrow.Author.Tests.{eq-eqb, ne-eqb, eqb-true}
+use Rattle.pitch_settings.specs.declared.Settings.{Settings}
 use Rattle.pitch_track.specs.declared.Track.{Track}
 use Rattle.pitch_track.specs.declared.Answer.the-variants.{Accepted, Refused}
-use Rattle.pitch_settings.specs.Settings.{hop-length}
+use Rattle.pitch_settings.specs.Settings.{settings-no, hop-length}
 use Rattle.pitch_track.specs.Paper.{F, before, rowsOf}
-use Rattle.pitch_track.specs.Step.{padded, pendingOf, prevOf, noOf, outcome, acceptedOf, deliverOf}
+use Rattle.pitch_track.specs.Step.{padded, answerOf, startOf, numberOf, pendingOf, prevOf, noOf, outcome, acceptedOf, deliverOf}
+
+-- the number that `start` says is that of the settings
+pub start-number : (s : Settings) → numberOf (startOf s .answer) ≡ settings-no s
+unfolding startOf answerOf
+start-number s = by (eqb (settings-no s) 0) refl
+  where
+    by : (b : Bool) → eqb (settings-no s) 0 ≡ b → numberOf (cond b (Accepted 0) (Refused (settings-no s))) ≡ settings-no s
+    by true e = sym (eqb-true (settings-no s) 0 e)
+    by false e = refl
 
 module _ (tr : Track) (t d : List ℤ) where
   pub refuses : (noOf tr t d ≡ 0 → ⊥) → deliverOf tr t d ≡ outcome (record { answer = Refused (noOf tr t d); track = tr }) t

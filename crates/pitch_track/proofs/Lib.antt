@@ -4,7 +4,3 @@ pub mod Refusals
 pub mod Lists
 pub mod Rows
 pub mod Deliver
-pub mod OnPaper
-pub mod Ahead
-pub mod Relational
-pub mod Words

@@ -25,6 +25,11 @@ padded l = l ++ drop (length l) zeros
 unfoldable pub answerOf : ℕ → ℕ → Answer
 answerOf r f = cond (eqb r 0) (Accepted f) (Refused r)
 
+-- an answer as one number: 0, or the refusal's
+abbrev pub numberOf : Answer → ℕ
+numberOf (Accepted f) = 0
+numberOf (Refused n) = n
+
 unfoldable pub freshOf : Settings → Track
 freshOf s = record { settings = s; frames = 0; held = zeros; count = 0; lag = pos 0; correlation = pos 0 }
 

@@ -10,7 +10,7 @@ use Rattle.lists.specs.Fill.{table}
 use Rattle.pitch_settings.specs.declared.Settings.{Settings}
 use Rattle.pitch_table.specs.declared.Row.{Row}
 use Rattle.pitch_track.specs.Paper.{nothing, rowAt, rowsOf, framesDone}
-use Rattle.pitch_track.specs.Chain.{runOf, finalJ}
+use Rattle.track_run.specs.Chain.{runOf, finalJ}
 use Rattle.sheet_sections.specs.Sheet.{sheet, sheet-length}
 use Rattle.pitch_sheet.specs.declared.Wrote.the-variants.{Written}
 use Rattle.pitch_sheet.specs.declared.Got.the-variants.{Read}

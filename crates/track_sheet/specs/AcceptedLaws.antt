@@ -21,9 +21,9 @@ use Rattle.pitch_settings.specs.SettingsLaws.{accepted}
 use Rattle.pitch_table.specs.declared.Row.{Row}
 use Rattle.pitch_table.specs.Row.{numbers, row-at}
 use Rattle.pitch_track.specs.Paper.{F, nothing, windowOf, before, rowAt, rowsOf, paperNo, joinedBy, joined, framesDone}
-use Rattle.pitch_track.specs.Chain.{runOf, finalJ}
+use Rattle.track_run.specs.Chain.{runOf, finalJ}
 use Rattle.pitch_track.proofs.Frames.{lt-or-le, short, fits}
-use Rattle.pitch_track.proofs.OnPaper.{Reached, on-paper}
+use Rattle.track_run.proofs.OnPaper.{Reached, on-paper}
 use Rattle.sheet_rows.specs.Rows.{row-holds}
 use Rattle.sheet_sections.specs.Sheet.{sheet, sheet-length, rows-of}
 use Rattle.sheet_page.specs.Page.{numbers-of}

@@ -14,11 +14,11 @@ use Rattle.pitch_settings.specs.declared.Settings.{Settings}
 use Rattle.pitch_settings.specs.Settings.{settings-no}
 use Rattle.pitch_track.specs.declared.Answer.the-variants.{Accepted, Refused}
 use Rattle.pitch_track.specs.Paper.{F, paperNo, answerTo, joinedBy, joined, answers, tableOf}
-use Rattle.pitch_track.specs.Step.{startOf, noOf, acceptedOf, deliverOf, Outcome as Delivery}
-use Rattle.pitch_track.specs.Chain.{Left, chainOf, runOf, finalJ, numberOf}
+use Rattle.pitch_track.specs.Step.{startOf, noOf, acceptedOf, deliverOf, numberOf, Outcome as Delivery}
+use Rattle.track_run.specs.Chain.{Left, chainOf, runOf, finalJ}
 use Rattle.pitch_track.proofs.Frames.{lt-or-le, eq-or-ne}
 use Rattle.pitch_track.proofs.Deliver.{refuses, accepts}
-use Rattle.pitch_track.proofs.OnPaper.{equation}
+use Rattle.track_run.proofs.OnPaper.{equation}
 use Rattle.pitch_sheet.specs.declared.Wrote.{Wrote}
 use Rattle.pitch_sheet.specs.declared.Wrote.the-variants.{Written, Refused as NotWritten}
 use Rattle.pitch_sheet.specs.Calls.{write-no, wrote, writeOf}

@@ -2,9 +2,8 @@
 use mathlib.Core.Path.{_≡_, sym, ap, _∙_}
 use Rattle.pitch_settings.specs.Settings.{settings-no}
 use Rattle.pitch_track.specs.declared.Started.{Started}
-use Rattle.pitch_track.specs.Chain.{numberOf}
-use Rattle.pitch_track.specs.Step.{outcome, startOf, deliverOf}
-use Rattle.pitch_track.proofs.Ahead.{start-number}
+use Rattle.pitch_track.specs.Step.{outcome, startOf, deliverOf, numberOf}
+use Rattle.pitch_track.proofs.Deliver.{start-number}
 use Rattle.track_sheet.specs.CallsLaws.{settings-refused, delivery-refused, delivery-written}
 use borrow.Author.Needs.{needs}
 use Rattle.track_sheet.proofs.track_sheet.Statement.{statement}

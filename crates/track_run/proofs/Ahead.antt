@@ -6,24 +6,21 @@ use native.Mathlib.Omega.{arith}
 use native.Mathlib.Numerals.{add-one}
 use native.Mathlib.Nat.{min-eq-right}
 use mathlib.Core.Logic.{⊎-elim}
-use borrow.Author.Tests.{eq-eqb, ne-eqb, eqb-true}
-use mathlib.Core.Bool.{Bool, true, false, cond}
-use lib.Dec.{eqb}
+use borrow.Author.Tests.{eq-eqb, ne-eqb}
 use lib.IntN.{ℤ}
 use lib.ListN.{length, getD, take, drop, set, length-take, drop-of-length-le}
 use lib.Seq.{drop-cons, take-suc-set, take-all, take-length, take-at}
 use Rattle.pitch_settings.specs.declared.Settings.{Settings}
 use Rattle.pitch_track.specs.declared.Track.{Track}
 use Rattle.pitch_track.specs.declared.Delivered.{Delivered}
-use Rattle.pitch_track.specs.declared.Ran.{Ran}
-use Rattle.pitch_track.specs.declared.Answer.the-variants.{Accepted, Refused}
+use Rattle.track_run.specs.declared.Ran.{Ran}
 use Rattle.pitch_settings.specs.Settings.{settings-no}
 use Rattle.pitch_track.specs.Paper.{framesDone}
-use Rattle.pitch_track.specs.Step.{Outcome, outcome, answerOf, startOf, deliverOf}
-use Rattle.pitch_track.specs.Chain.{Left, then, chainOf, runOf, finalJ, numberOf, numbersOf, partsOf, Ended, deliveriesOf, runOutcome, ranOf, EndsOnPaper}
+use Rattle.pitch_track.specs.Step.{Outcome, outcome, startOf, deliverOf, numberOf}
+use Rattle.track_run.specs.Chain.{Left, then, chainOf, runOf, finalJ, numbersOf, partsOf, Ended, deliveriesOf, runOutcome, ranOf, EndsOnPaper}
 use Rattle.pitch_track.proofs.Frames.{lt-or-le}
-use Rattle.pitch_track.proofs.Words.{rows-say}
-use Rattle.pitch_track.proofs.OnPaper.{on-paper, equation}
+use Rattle.track_run.proofs.Words.{rows-say}
+use Rattle.track_run.proofs.OnPaper.{on-paper, equation}
 
 -- the whole chain leaves what its rest leaves, with the i answers that are there before it
 pub record Ahead (a : Left) (said : List ℕ) (i : ℕ) (b : Left) : Type 0 where
@@ -125,15 +122,6 @@ ended s ok t ds said tr table e n h =
       state-is = e ∙ ap (λ (l : Left). l .track) (equation s ok t ds);
       table-is = h ∙ ap (λ (l : Left). l .table) (equation s ok t ds);
     }
-
--- the number that `start` says is that of the settings
-pub start-number : (s : Settings) → numberOf (startOf s .answer) ≡ settings-no s
-unfolding startOf answerOf
-start-number s = by (eqb (settings-no s) 0) refl
-  where
-    by : (b : Bool) → eqb (settings-no s) 0 ≡ b → numberOf (cond b (Accepted 0) (Refused (settings-no s))) ≡ settings-no s
-    by true e = sym (eqb-true (settings-no s) 0 e)
-    by false e = refl
 
 -- a run with settings that are accepted, and one with settings that are refused
 module _ (s : Settings) (t : List ℤ) (cuts : List ℕ) (x : List ℤ) (said : List ℕ) where

@@ -1,4 +1,4 @@
--- `pitch_track::run` meets its contract: with settings that are accepted it is the chain of the deliveries that have a place, and else the start alone.
+-- `track_run::run` meets its contract: with settings that are accepted it is the chain of the deliveries that have a place, and else the start alone.
 -- Assumes nothing.
 use borrow.Author.Needs.{needs}
 use mathlib.Core.Path.{_≡_, sym, ap, _∙_}
@@ -9,12 +9,14 @@ use lib.IntN.{ℤ}
 use lib.ListN.{length, take, drop, length-append, length-drop}
 use lib.Seq.{length-take-le}
 use Rattle.pitch_settings.specs.Settings.{settings-no}
 use Rattle.pitch_track.specs.declared.Started.{Started}
 use Rattle.pitch_track.specs.declared.Answer.{Answer}
-use Rattle.pitch_track.specs.Chain.{Left, numbersOf, numberOf, chainOf, partsOf, runOf, deliveriesOf}
-use Rattle.pitch_track.proofs.Ahead.{take-min, start-number, made-parts, length-made, ran, ends, refused}
-use Rattle.pitch_track.proofs.run.Statement.{statement}
-use Rattle.pitch_track.proofs.run.Tie as tie
+use Rattle.pitch_track.specs.Step.{numberOf}
+use Rattle.pitch_track.proofs.Deliver.{start-number}
+use Rattle.track_run.specs.Chain.{Left, numbersOf, chainOf, partsOf, runOf, deliveriesOf}
+use Rattle.track_run.proofs.Ahead.{take-min, made-parts, length-made, ran, ends, refused}
+use Rattle.track_run.proofs.run.Statement.{statement}
+use Rattle.track_run.proofs.run.Tie as tie
 
 -- the number that the start said
 number-is : (c : tie.After-number) → c .number .result ≡ settings-no (c .before .before .before .before .before .args .s)

@@ -1,4 +1,4 @@
--- `pitch_track::deliver_parts` meets its contract. The invariant: the whole chain leaves what the rest of it leaves from here, with i answers before it.
+-- `track_run::deliver_parts` meets its contract. The invariant: the whole chain leaves what the rest of it leaves from here, with i answers before it.
 -- Assumes nothing.
 use borrow.Author.Needs.{needs}
 use mathlib.Core.Path.{_≡_, refl, sym, ap, subst, _∙_}
@@ -8,10 +8,10 @@ use native.Mathlib.Omega.{arith}
 use lib.IntN.{ℤ}
 use lib.ListN.{length, take, drop, getD, length-set, length-drop}
 use lib.Seq.{drop-drop}
-use Rattle.pitch_track.specs.Chain.{Left, chainOf, partsOf}
-use Rattle.pitch_track.proofs.Ahead.{Ahead, ahead-none, ahead-all, chain-none, turn, take-min, drop-min}
-use Rattle.pitch_track.proofs.deliver_parts.Statement.{statement}
-use Rattle.pitch_track.proofs.deliver_parts.Tie as tie
+use Rattle.track_run.specs.Chain.{Left, chainOf, partsOf}
+use Rattle.track_run.proofs.Ahead.{Ahead, ahead-none, ahead-all, chain-none, turn, take-min, drop-min}
+use Rattle.track_run.proofs.deliver_parts.Statement.{statement}
+use Rattle.track_run.proofs.deliver_parts.Tie as tie
 
 abbrev Inv-loop : tie.InvT-loop
 Inv-loop track₀ samples cuts table₀ said₀ at₀ i₀ track table said at i =

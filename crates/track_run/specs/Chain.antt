@@ -8,14 +8,14 @@ use lib.ListN.{length, take, drop}
 use lib.Dec.{eqb}
 use Rattle.pitch_settings.specs.declared.Settings.{Settings}
 use Rattle.pitch_settings.specs.Settings.{settings-no}
 use Rattle.pitch_track.specs.declared.Track.{Track}
-use Rattle.pitch_track.specs.declared.Ran.{Ran}
+use Rattle.track_run.specs.declared.Ran.{Ran}
 use Rattle.pitch_track.specs.declared.Answer.{Answer}
 use Rattle.pitch_track.specs.declared.Answer.the-variants.{Accepted, Refused}
 use Rattle.pitch_table.specs.Row.{numbers}
 use Rattle.pitch_track.specs.Paper.{before, nothing, windowOf, rowAt, rowsOf, joined, answers, framesDone, samplesHeld, tableOf}
-use Rattle.pitch_track.specs.Words.{RowSays}
-use Rattle.pitch_track.specs.Step.{Outcome, padded, startOf, deliverOf}
+use Rattle.track_run.specs.Words.{RowSays}
+use Rattle.pitch_track.specs.Step.{Outcome, padded, startOf, deliverOf, numberOf}
 
 -- what a chain of calls leaves: each call's answer, and the state and the table at the end
 pub record Left : Type 0 where
@@ -74,11 +74,6 @@ stateOf s j =
       lag = before s j nothing (framesDone s j) .lag;
       correlation = before s j nothing (framesDone s j) .correlation;
     }
-
--- an answer as one number: 0, or the refusal's
-abbrev pub numberOf : Answer → ℕ
-numberOf (Accepted f) = 0
-numberOf (Refused n) = n
 
 -- the parts of x that have these lengths, one after the other
 unfoldable pub partsOf : List ℕ → List ℤ → List (List ℤ)

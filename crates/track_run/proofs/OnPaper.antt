@@ -10,21 +10,21 @@ use lib.ListN.{length, take, drop, length-append, length-drop}
 use lib.Seq.{drop-drop, drop-append-le, take-at, drop-at, drop-append-add}
 use borrow.Author.Tests.{eq-eqb, ne-eqb, lt-ltb, le-ltb}
 use Rattle.pitch_settings.specs.declared.Settings.{Settings}
 use Rattle.pitch_track.specs.declared.Prev.{Prev}
 use Rattle.pitch_track.specs.declared.Track.{Track}
 use Rattle.pitch_track.specs.declared.Answer.{Answer}
 use Rattle.pitch_track.specs.declared.Answer.the-variants.{Accepted, Refused}
 use Rattle.pitch_settings.specs.Settings.{frame-length, hop-length, settings-no}
 use Rattle.pitch_table.specs.Row.{numbers}
 use Rattle.pitch_track.specs.Paper.{F, before, nothing, rowAt, rowsOf, mostFrames, paperNo, joinedBy, answerTo, joined, answers, framesDone, samplesHeld, tableOf}
 use Rattle.pitch_track.specs.Step.{Outcome, outcome, padded, startOf, freshOf, zeros, refusalOf, noOf, pendingOf, prevOf, acceptedOf, deliverOf}
-use Rattle.pitch_track.specs.Chain.{Left, then, chainOf, runOf, finalJ, stateOf, OnPaper, kept, keptIf, finished}
+use Rattle.track_run.specs.Chain.{Left, then, chainOf, runOf, finalJ, stateOf, OnPaper, kept, keptIf, finished}
 use Rattle.pitch_track.proofs.Frames.{lt-or-le, short, fits, rest, starts, parts, eq-or-ne}
 use Rattle.pitch_settings.specs.SettingsLaws.{Accepted as Sized, accepted}
 use Rattle.pitch_track.proofs.Refusals.{six, seven, room, none}
 use Rattle.pitch_track.proofs.Lists.{padded-front}
 use Rattle.pitch_track.proofs.Rows.{length-rows, before-drop, rows-drop, before-stable, rows-stable, row-in}
 use Rattle.pitch_track.proofs.Deliver.{refuses, accepts, made}
 
 -- what each test of the paper says of `paperNo`
 module _ (s : Settings) (rows : ℕ) (j d : List ℤ) where

@@ -19,9 +19,9 @@ use Rattle.silk_pitch_analysis.specs.declared.Verdict.the-variants.{Voiced, Unv
 use Rattle.silk_pitch_analysis.specs.Frame.{number-of, index-of, contour-of, lag-of, row-lag, row-from, row-of, verdict-of}
 use Rattle.silk_pitch_analysis.specs.Meaning.{UnvoicedWhen}
 use Rattle.silk_pitch_analysis.specs.Theorem.{verdict-means, unvoiced-exactly}
 use Rattle.pitch_track.specs.Paper.{F, nothing, framesDone, windowOf, before, rowAt}
-use Rattle.pitch_track.specs.Words.{subframe-lag, RowSays}
+use Rattle.track_run.specs.Words.{subframe-lag, RowSays}
 use Rattle.pitch_track.proofs.Frames.{fits}
 
 apart : _≡_ {A = ℤ} (pos 1) (pos 0) → ⊥
 apart e = let k : _≡_ {A = ℕ} 1 0 = ap natAbs e in omega arith

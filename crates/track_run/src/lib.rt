@@ -1,0 +1,80 @@
+// A whole run of a pitch track: a fresh start, and then deliveries one after the other.
+ghost use mathlib.Core.Path.{_≡_};
+ghost use Prim.Native.Nat.{min};
+ghost use lib.ListN.{length};
+ghost use Rattle.track_run.specs.Chain.{numbersOf, chainOf, partsOf, deliveriesOf, runOutcome, ranOf, EndsOnPaper};
+use pitch_settings::Settings;
+use pitch_track::Answer;
+use pitch_track::Track;
+use pitch_track::number;
+
+// What a whole run says: the answer of its start, and the track at its end.
+pub struct Ran {
+    pub answer: Answer,
+    pub track: Track,
+}
+
+fn lesser(a: usize, b: usize) -> usize
+    ensures { λ r. ⌜ r ≡ min a b ⌝ }
+{
+    if a < b {
+        return a;
+    }
+    b
+}
+
+// Deliveries one after the other: the parts of `samples` whose lengths are `cuts`, of which one past the end has what is left. `said` gets a number for each.
+fn deliver_parts(
+    mut track: Track,
+    samples: &[i16],
+    cuts: &[usize],
+    table: &mut [i32],
+    said: &mut [usize],
+) -> Track
+    requires { ⌜ length (now said) ≡ length (now cuts) ⌝ }
+    ensures { λ r. ⌜ r ≡ chainOf track (now (table .entry)) (partsOf (now (cuts .entry)) (now (samples .entry))) .track ⌝ }
+    ensures { λ _. ⌜ now (said .exit) ≡ numbersOf (chainOf track (now (table .entry)) (partsOf (now (cuts .entry)) (now (samples .entry))) .said) ⌝ }
+    ensures { λ _. ⌜ now (table .exit) ≡ chainOf track (now (table .entry)) (partsOf (now (cuts .entry)) (now (samples .entry))) .table ⌝ }
+{
+    let mut at = 0;
+    let mut i = 0;
+    while i < cuts.len() {
+        let n = lesser(cuts[i], samples.len() - at);
+        let end = at + n;
+        let part = &samples[at..end];
+        let d = track.deliver(part, table);
+        let next = d.track;
+        track = next;
+        let a = d.answer;
+        said[i] = number(a);
+        at = end;
+        i += 1;
+    }
+    track
+}
+
+// A whole run: a fresh start, then the parts of `samples` whose lengths are `cuts`, as many as `said` has places. Refused settings make no delivery.
+pub fn run(
+    s: Settings,
+    samples: &[i16],
+    cuts: &[usize],
+    table: &mut [i32],
+    said: &mut [usize],
+) -> Ran
+    ensures { λ r. ⌜ runOutcome r (now (said .exit)) (now (table .exit))
+        ≡ ranOf s (now (table .entry)) (deliveriesOf s (now (cuts .entry)) (now (samples .entry)) (length (now (said .entry)))) (now (said .entry)) ⌝ }
+    ensures { λ r. ⌜ EndsOnPaper s (now (table .entry)) (deliveriesOf s (now (cuts .entry)) (now (samples .entry)) (length (now (said .entry)))) (now (said .exit)) r (now (table .exit)) ⌝ }
+{
+    let started = Track::start(s);
+    let answer = started.answer;
+    let track = started.track;
+    if number(answer) != 0 {
+        return Ran { answer, track };
+    }
+    let n = lesser(said.len(), cuts.len());
+    let last = deliver_parts(track, samples, &cuts[..n], table, &mut said[..n]);
+    Ran {
+        answer,
+        track: last,
+    }
+}
