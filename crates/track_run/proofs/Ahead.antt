@@ -17,10 +17,10 @@ use Rattle.track_run.specs.declared.Ran.{Ran}
 use Rattle.pitch_settings.specs.Settings.{settings-no}
 use Rattle.pitch_track.specs.Paper.{framesDone}
 use Rattle.pitch_track.specs.Step.{Outcome, outcome, startOf, deliverOf, numberOf}
-use Rattle.track_run.specs.Chain.{Left, then, chainOf, runOf, finalJ, numbersOf, partsOf, Ended, deliveriesOf, runOutcome, ranOf, EndsOnPaper}
+use Rattle.track_run.specs.Chain.{Left, then, chainOf, runOf, finalJ, numbersOf, kept, partsOf, Ended, deliveriesOf, runOutcome, ranOf, EndsOnPaper}
 use Rattle.pitch_track.proofs.Frames.{lt-or-le}
 use Rattle.track_run.proofs.Words.{rows-say}
-use Rattle.track_run.proofs.OnPaper.{on-paper, equation}
+use Rattle.track_run.proofs.OnPaper.{on-paper, equation, same-rows}
 
 -- the whole chain leaves what its rest leaves, with the i answers that are there before it
 pub record Ahead (a : Left) (said : List ℕ) (i : ℕ) (b : Left) : Type 0 where
@@ -121,6 +121,7 @@ ended s ok t ds said tr table e n h =
       rows-say = rows-say s (finalJ s t ds) ok;
       state-is = e ∙ ap (λ (l : Left). l .track) (equation s ok t ds);
       table-is = h ∙ ap (λ (l : Left). l .table) (equation s ok t ds);
+      cuts-free = λ u es a. rw (e, h) (same-rows s ok t u ds es (ap (λ (k : List ℕ). kept k ds) (sym n) ∙ a));
     }
 
 -- a run with settings that are accepted, and one with settings that are refused

@@ -18,7 +18,7 @@ use Rattle.pitch_settings.specs.Settings.{frame-length, hop-length, settings-no
 use Rattle.pitch_table.specs.Row.{numbers}
 use Rattle.pitch_track.specs.Paper.{F, before, nothing, rowAt, rowsOf, mostFrames, paperNo, joinedBy, answerTo, joined, answers, framesDone, samplesHeld, tableOf}
 use Rattle.pitch_track.specs.Step.{Outcome, outcome, padded, startOf, freshOf, zeros, refusalOf, noOf, pendingOf, prevOf, acceptedOf, deliverOf}
-use Rattle.track_run.specs.Chain.{Left, then, chainOf, runOf, finalJ, stateOf, OnPaper, kept, keptIf, finished}
+use Rattle.track_run.specs.Chain.{Left, then, chainOf, runOf, finalJ, stateOf, OnPaper, numbersOf, kept, acceptedIn, finished, SameRows}
 use Rattle.pitch_track.proofs.Frames.{lt-or-le, short, fits, rest, starts, parts, eq-or-ne}
 use Rattle.pitch_settings.specs.SettingsLaws.{Accepted as Sized, accepted}
 use Rattle.pitch_track.proofs.Refusals.{six, seven, room, none}
@@ -307,7 +307,7 @@ module _ (s : Settings) (ok : settings-no s ≡ 0) where
         }
 
     -- the finished rows are those of J
-    finished-are : (ds : List (List ℤ)) → finished (runOf s t ds) ≡ rowsOf s (finalJ s t ds) nothing (framesDone s (finalJ s t ds))
+    finished-are : (ds : List (List ℤ)) → finished (runOf s t ds .track) (runOf s t ds .table) ≡ rowsOf s (finalJ s t ds) nothing (framesDone s (finalJ s t ds))
     unfolding stateOf tableOf
     finished-are ds =
         let j : List ℤ = finalJ s t ds in
@@ -315,29 +315,32 @@ module _ (s : Settings) (ok : settings-no s ≡ 0) where
         ∙ take-at (rowsOf s j nothing (framesDone s j)) (drop (framesDone s j * 8) t) (framesDone s j * 8) (length-rows s j nothing (framesDone s j))
 
     -- J is the accepted samples, joined
-    kept-then : (ds : List (List ℤ)) (j : List ℤ) → j ++ kept (answers s whole-rows j ds) ds ≡ joined s whole-rows j ds
-    unfolding answers joined kept
+    kept-then : (ds : List (List ℤ)) (j : List ℤ) → j ++ kept (numbersOf (answers s whole-rows j ds)) ds ≡ joined s whole-rows j ds
+    unfolding answers joined kept numbersOf
     kept-then [] j = append-nil j
     kept-then (d ∷ ds) j =
+        let more : List ℤ = kept (numbersOf (answers s whole-rows (joinedBy s whole-rows j d) ds)) ds in
         ⊎-elim
         (λ (e : paperNo s whole-rows j d ≡ 0).
-        rw (says-yes s whole-rows j d e) (sym (append-assoc j d (kept (answers s whole-rows (joinedBy s whole-rows j d) ds) ds))
-        ∙ ap (λ (l : List ℤ). l ++ kept (answers s whole-rows (joinedBy s whole-rows j d) ds) ds) (sym (joins s whole-rows j d e))
-        ∙ kept-then ds (joinedBy s whole-rows j d)))
+        rw (says-yes s whole-rows j d e)
+        (sym (append-assoc j d more) ∙ ap (λ (l : List ℤ). l ++ more) (sym (joins s whole-rows j d e)) ∙ kept-then ds (joinedBy s whole-rows j d)))
         (λ (e : paperNo s whole-rows j d ≡ 0 → ⊥).
-        rw (says-no s whole-rows j d e)
-        (ap (λ (l : List ℤ). l ++ kept (answers s whole-rows (joinedBy s whole-rows j d) ds) ds) (sym (stays s whole-rows j d e))
-        ∙ kept-then ds (joinedBy s whole-rows j d)))
+        rw (says-no s whole-rows j d e, ne-eqb (paperNo s whole-rows j d) 0 e)
+        (ap (λ (l : List ℤ). l ++ more) (sym (stays s whole-rows j d e)) ∙ kept-then ds (joinedBy s whole-rows j d)))
         (eq-or-ne (paperNo s whole-rows j d) 0)
 
-    accepted-is : (ds : List (List ℤ)) → kept (runOf s t ds .said) ds ≡ finalJ s t ds
-    accepted-is ds = ap (λ (l : Left). kept (l .said) ds) (equation ds) ∙ kept-then ds []
+    accepted-is : (ds : List (List ℤ)) → acceptedIn s t ds ≡ finalJ s t ds
+    accepted-is ds = ap (λ (l : Left). kept (numbersOf (l .said)) ds) (equation ds) ∙ kept-then ds []
 
-  -- DEMAND 3, the cuts: lists alike in settings and in accepted samples, joined, end with the same state and the same finished rows
-  pub cuts : (t u : List ℤ) (ds es : List (List ℤ)) → kept (runOf s t ds .said) ds ≡ kept (runOf s u es .said) es
-      → (finished (runOf s t ds) ≡ finished (runOf s u es)) × (runOf s t ds .track ≡ runOf s u es .track)
-  cuts t u ds es h =
-      let e : finalJ s t ds ≡ finalJ s u es = sym (accepted-is t ds) ∙ h ∙ accepted-is u es in (
-        finished-are t ds ∙ ap (λ (j : List ℤ). rowsOf s j nothing (framesDone s j)) e ∙ sym (finished-are u es),
-        ap (λ (l : Left). l .track) (equation t ds) ∙ ap (stateOf s) e ∙ sym (ap (λ (l : Left). l .track) (equation u es)),
-      )
+  -- DEMAND 3, the cuts
+  pub same-rows : (t u : List ℤ) (ds es : List (List ℤ)) → SameRows s t u ds es
+  same-rows t u ds es h =
+      let e : finalJ s t ds ≡ finalJ s u es = sym (accepted-is t ds) ∙ h ∙ accepted-is u es in
+      let same : runOf s t ds .track ≡ runOf s u es .track =
+      ap (λ (l : Left). l .track) (equation t ds) ∙ ap (stateOf s) e ∙ sym (ap (λ (l : Left). l .track) (equation u es)) in
+      record {
+        rows-same = finished-are t ds ∙ ap (λ (j : List ℤ). rowsOf s j nothing (framesDone s j)) e ∙ sym (finished-are u es);
+        frames-same = ap (λ (k : Track). k .frames) same;
+        held-same = ap (λ (k : Track). take (k .count) (k .held)) same;
+        state-same = same;
+      }

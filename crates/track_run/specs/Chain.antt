@@ -11,7 +11,6 @@ use Rattle.pitch_settings.specs.Settings.{settings-no}
 use Rattle.pitch_track.specs.declared.Track.{Track}
 use Rattle.track_run.specs.declared.Ran.{Ran}
 use Rattle.pitch_track.specs.declared.Answer.{Answer}
-use Rattle.pitch_track.specs.declared.Answer.the-variants.{Accepted, Refused}
 use Rattle.pitch_table.specs.Row.{numbers}
 use Rattle.pitch_track.specs.Paper.{before, nothing, windowOf, rowAt, rowsOf, joined, answers, framesDone, samplesHeld, tableOf}
 use Rattle.track_run.specs.Words.{RowSays}
@@ -49,19 +48,40 @@ pub record OnPaper (s : Settings) (t : List ℤ) (ds : List (List ℤ)) : Type 0
   pub others : drop (framesDone s (finalJ s t ds) * 8) (runOf s t ds .table) ≡ drop (framesDone s (finalJ s t ds) * 8) t
   pub size : length (runOf s t ds .table) ≡ length t
 
--- the samples of the deliveries that were accepted, joined, by what was said of each
-abbrev pub keptIf : Answer → List ℤ → List ℤ
-keptIf (Accepted f) d = d
-keptIf (Refused n) d = []
+-- the numbers that a chain's answers say: 0 where a delivery was accepted, else the refusal's
+unfoldable pub numbersOf : List Answer → List ℕ
+numbersOf [] = []
+numbersOf (a ∷ rest) = numberOf a ∷ numbersOf rest
 
-unfoldable pub kept : List Answer → List (List ℤ) → List ℤ
+-- ---- the cuts: "Lists alike in settings and accepted samples, joined, end with the same finished rows, wherever the samples were cut"
+
+-- the samples of the deliveries that were accepted, joined, by the number said of each
+abbrev pub keptIf : ℕ → List ℤ → List ℤ
+keptIf n d = cond (eqb n 0) d []
+
+unfoldable pub kept : List ℕ → List (List ℤ) → List ℤ
 kept [] ds = []
-kept (a ∷ rest) [] = []
-kept (a ∷ rest) (d ∷ ds) = keptIf a d ++ kept rest ds
+kept (n ∷ rest) [] = []
+kept (n ∷ rest) (d ∷ ds) = keptIf n d ++ kept rest ds
 
--- the finished rows that a chain left
-abbrev pub finished : Left → List ℤ
-finished l = take (l .track .frames * 8) (l .table)
+-- those of a list of deliveries
+abbrev pub acceptedIn : Settings → List ℤ → List (List ℤ) → List ℤ
+acceptedIn s t ds = kept (numbersOf (runOf s t ds .said)) ds
+
+-- the finished rows in a table, by the frames done
+abbrev pub finished : Track → List ℤ → List ℤ
+finished track table = take (track .frames * 8) table
+
+-- a track and its table end as a chain does: the finished rows, the frames done, the samples held and the state
+pub record EndsAs (track : Track) (table : List ℤ) (l : Left) : Type 0 where
+  pub rows-same : finished track table ≡ finished (l .track) (l .table)
+  pub frames-same : track .frames ≡ l .track .frames
+  pub held-same : take (track .count) (track .held) ≡ take (l .track .count) (l .track .held)
+  pub state-same : track ≡ l .track
+
+-- the claim about two lists of deliveries, ds into a table t and es into a table u
+abbrev pub SameRows : Settings → List ℤ → List ℤ → List (List ℤ) → List (List ℤ) → Type 0
+SameRows s t u ds es = acceptedIn s t ds ≡ acceptedIn s u es → EndsAs (runOf s t ds .track) (runOf s t ds .table) (runOf s u es)
 
 -- the state on paper: that of a track whose accepted samples are j
 unfoldable pub stateOf : Settings → List ℤ → Track
@@ -80,11 +100,8 @@ unfoldable pub partsOf : List ℕ → List ℤ → List (List ℤ)
 partsOf [] x = []
 partsOf (n ∷ ns) x = take n x ∷ partsOf ns (drop n x)
 
-unfoldable pub numbersOf : List Answer → List ℕ
-numbersOf [] = []
-numbersOf (a ∷ rest) = numberOf a ∷ numbersOf rest
-
--- what a run of the code leaves: its answers' numbers, its track and its table are those of the track on paper
+-- what a run of the code leaves: its answers' numbers, its track and its table are those of the track on paper; and it ends as every other list does, into any table, whose accepted samples,
+-- joined, are those that its own answers tell
 pub record Ended (s : Settings) (t : List ℤ) (ds : List (List ℤ)) (said : List ℕ) (track : Track) (table : List ℤ) : Type 0 where
   pub answers-are : said ≡ numbersOf (answers s (length t / 8) [] ds)
   pub frames-are : track .frames ≡ framesDone s (finalJ s t ds)
@@ -95,6 +112,7 @@ pub record Ended (s : Settings) (t : List ℤ) (ds : List (List ℤ)) (said : Li
       → RowSays s (windowOf s (finalJ s t ds) i) (before s (finalJ s t ds) nothing i .lag) (before s (finalJ s t ds) nothing i .correlation) (rowAt s (finalJ s t ds) nothing i)
   pub state-is : track ≡ stateOf s (finalJ s t ds)
   pub table-is : table ≡ tableOf s t (finalJ s t ds)
+  pub cuts-free : (u : List ℤ) (es : List (List ℤ)) → kept said ds ≡ acceptedIn s u es → EndsAs track table (runOf s u es)
 
 -- ---- a whole run
 
