@@ -30,6 +30,11 @@ abbrev pub numberOf : Answer → ℕ
 numberOf (Accepted f) = 0
 numberOf (Refused n) = n
 
+-- an answer in document 01's numbers: accepted is 0, with the frames done; a refusal is its number
+abbrev pub answer-in-numbers : Answer → List ℤ
+answer-in-numbers (Accepted f) = pos 0 ∷ pos f ∷ []
+answer-in-numbers (Refused n) = pos n ∷ []
+
 unfoldable pub freshOf : Settings → Track
 freshOf s = record { settings = s; frames = 0; held = zeros; count = 0; lag = pos 0; correlation = pos 0 }
 
@@ -80,6 +85,10 @@ acceptedOf tr t d k =
 
 abbrev pub noOf : Track → List ℤ → List ℤ → ℕ
 noOf tr t d = refusalOf (tr .settings) (tr .frames) (tr .count) (length d) (length t)
+
+-- the frames done after a delivery that is accepted
+abbrev pub doneOf : Track → List ℤ → ℕ
+doneOf tr d = tr .frames + F (tr .settings) (tr .count + length d)
 
 unfoldable pub deliverOf : Track → List ℤ → List ℤ → Outcome
 deliverOf tr t d =

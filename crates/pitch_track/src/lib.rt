@@ -1,13 +1,14 @@
 // A pitch track that is fed by deliveries of samples: start and deliver.
 ghost use mathlib.Core.Path.{_≡_};
-ghost use mathlib.Core.List.{_++_};
+ghost use mathlib.Core.List.{[], _∷_, _++_};
 ghost use Prim.Native.Nat.{_+_, _*_, _<_, _≤_};
 ghost use lib.ListN.{length, take, drop, getD};
 ghost use lib.IntN.{pos};
 ghost use Rattle.pitch_settings.specs.Settings.{settings-no, frame-length, hop-length};
 ghost use Rattle.silk_pitch_analysis.specs.declared.RowAnswer.the-variants.{Analysed};
 ghost use Rattle.pitch_track.specs.Paper.{framesIn, rowOf, after, before, rowsOf};
-ghost use Rattle.pitch_track.specs.Step.{padded, startOf, refusalOf, deliverOf, outcome, numberOf};
+ghost use Rattle.pitch_track.specs.Step.{padded, startOf, refusalOf, noOf, doneOf, deliverOf, outcome, numberOf, answer-in-numbers};
+ghost use Rattle.answers.specs.Answer.{answer-numbers};
 use pitch_settings::Settings;
 use pitch_settings::frame_length;
 use pitch_settings::hop_length;
@@ -188,6 +189,7 @@ fn put_rows(
 impl Track {
     pub fn start(s: Settings) -> Started
         ensures { λ r. ⌜ r ≡ startOf s ⌝ }
+        ensures { λ r. ⌜ answer-in-numbers (r .answer) ≡ answer-numbers (settings-no s) (pos 0 ∷ []) ⌝ }
     {
         let no = settings_no(s);
         let answer = if no == 0 {
@@ -209,6 +211,7 @@ impl Track {
 
     pub fn deliver(mut self, samples: &[i16], table: &mut [i32]) -> Delivered
         ensures { λ r. ⌜ outcome r (now (table .exit)) ≡ deliverOf self (now (table .entry)) (now (samples .entry)) ⌝ }
+        ensures { λ r. ⌜ answer-in-numbers (r .answer) ≡ answer-numbers (noOf self (now (table .entry)) (now (samples .entry))) (pos (doneOf self (now (samples .entry))) ∷ []) ⌝ }
     {
         let s = self.settings;
         let frames = self.frames;

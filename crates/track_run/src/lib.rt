@@ -1,7 +1,12 @@
 // A whole run of a pitch track: a fresh start, and then deliveries one after the other.
 ghost use mathlib.Core.Path.{_≡_};
+ghost use mathlib.Core.List.{[], _∷_};
 ghost use Prim.Native.Nat.{min};
+ghost use lib.IntN.{pos};
 ghost use lib.ListN.{length};
+ghost use Rattle.answers.specs.Answer.{answer-numbers};
+ghost use Rattle.pitch_settings.specs.Settings.{settings-no};
+ghost use Rattle.pitch_track.specs.Step.{answer-in-numbers};
 ghost use Rattle.track_run.specs.Chain.{numbersOf, chainOf, partsOf, deliveriesOf, runOutcome, ranOf, EndsOnPaper};
 use pitch_settings::Settings;
 use pitch_track::Answer;
@@ -64,6 +69,7 @@ pub fn run(
     ensures { λ r. ⌜ runOutcome r (now (said .exit)) (now (table .exit))
         ≡ ranOf s (now (table .entry)) (deliveriesOf s (now (cuts .entry)) (now (samples .entry)) (length (now (said .entry)))) (now (said .entry)) ⌝ }
     ensures { λ r. ⌜ EndsOnPaper s (now (table .entry)) (deliveriesOf s (now (cuts .entry)) (now (samples .entry)) (length (now (said .entry)))) (now (said .exit)) r (now (table .exit)) ⌝ }
+    ensures { λ r. ⌜ answer-in-numbers (r .answer) ≡ answer-numbers (settings-no s) (pos 0 ∷ []) ⌝ }
 {
     let started = Track::start(s);
     let answer = started.answer;

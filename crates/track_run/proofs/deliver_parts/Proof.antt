@@ -116,7 +116,7 @@ loop-again c =
       length-set (l .said) (l .i) (c .number .result) ∙ l .inv .3,
       turn _ (a .cuts .now) (l .i) (l .track) (l .table) (rest k) _ _ (l .said) (c .number .result) (d .result) (d .last .1 .1 .0)
           h (omega (arith, l .inv .3, start k .pre, h))
-          (part-is k) (rest-is k) (d .ensures) (c .number .ensures) (l .inv .4),
+          (part-is k) (rest-is k) (d .ensures .0) (c .number .ensures) (l .inv .4),
     )
 
 same-length : tie.Need-same-length Inv-loop μ-loop

@@ -22,7 +22,7 @@ use Rattle.track_run.proofs.run.Tie as tie
 number-is : (c : tie.After-number) → c .number .result ≡ settings-no (c .before .before .before .before .before .args .s)
 number-is c =
     let s = c .before .before .before .before .before in
-    c .number .ensures ∙ ap (λ (r : Started). numberOf (r .answer)) (c .before .before .start .ensures) ∙ start-number (s .args .s)
+    c .number .ensures ∙ ap (λ (r : Started). numberOf (r .answer)) (c .before .before .start .ensures .0) ∙ start-number (s .args .s)
 
 start-requires : tie.Need-start-requires
 start-requires c κs = search needs
@@ -33,10 +33,11 @@ number-requires c κs = search needs
 returns : tie.Need-returns
 returns c =
     let s = c .before .before .before .before .before .before in
-    let e = c .before .before .before .start .ensures in
+    let o = c .before .before .before .start .ensures in
+    let e = o .0 in
     let wrong : settings-no (s .args .s) ≡ 0 → ⊥ = λ z. omega (arith, number-is (c .before), c .if1 .taken) in (
       refused (s .args .s) (s .args .table .now) (s .args .cuts .now) (s .args .samples .now) (s .args .said .now) wrong _ (ap (λ (r : Started). r .answer) e) (ap (λ (r : Started). r .track) e),
-      λ z. absurd (wrong z),
+      (λ z. absurd (wrong z), o .1),
     )
 
 lesser-requires : tie.Need-lesser-requires
@@ -72,7 +73,7 @@ module _ (c : tie.After-lesser) where
 
   -- the chain of them
   chain : chainOf (c .before .before .before .before .start .result .track) (start .args .table .now) (partsOf (take n (start .args .cuts .now)) (start .args .samples .now)) ≡ runOf (start .args .s) (start .args .table .now) made
-  chain = λ i. chainOf (c .before .before .before .before .start .ensures i .track) (start .args .table .now) (parts i)
+  chain = λ i. chainOf (c .before .before .before .before .start .ensures .0 i .track) (start .args .table .now) (parts i)
 
 slice-aggregate-deliver-parts : tie.Need-slice-aggregate-deliver-parts
 slice-aggregate-deliver-parts c = sym (length-take-le _ _ (cuts (c .before)))
@@ -102,12 +103,13 @@ returns-2 c =
     let k = p .before .before .before .before in
     let a = start k .args in
     let o = p .deliver-parts .ensures in
-    let e = ap (λ (r : Started). r .answer) (k .before .before .before .before .start .ensures) in
+    let begun = k .before .before .before .before .start .ensures in
+    let e = ap (λ (r : Started). r .answer) (begun .0) in
     let track = o .0 ∙ ap (λ (l : Left). l .track) (chain k) in
     let numbers = o .1 .0 ∙ ap (λ (l : Left). numbersOf (l .said)) (chain k) in
     let table = o .1 .1 ∙ ap (λ (l : Left). l .table) (chain k) in (
       ran (a .s) (a .table .now) (a .cuts .now) (a .samples .now) (a .said .now) (ok k) (n k) (all k) _ _ _ e track numbers table,
-      ends (a .s) (a .table .now) (a .cuts .now) (a .samples .now) (a .said .now) (ok k) (n k) (all k) _ _ _ e track numbers table,
+      (ends (a .s) (a .table .now) (a .cuts .now) (a .samples .now) (a .said .now) (ok k) (n k) (all k) _ _ _ e track numbers table, begun .1),
     )
 
 pub run-spec : {M : Type 1} → statement M

@@ -18,7 +18,7 @@ use Rattle.pitch_track.proofs.Frames.{rest, starts}
 use Rattle.pitch_track.proofs.Refusals.{Passed, passed}
 use Rattle.pitch_track.proofs.Lists.{length-pending}
 use Rattle.zint.specs.Read.{r-elem}
-use Rattle.pitch_track.proofs.Deliver.{refuses, accepts, made, kept}
+use Rattle.pitch_track.proofs.Deliver.{refuses, accepts, made, kept, delivers}
 use borrow.Author.Needs.{needs}
 use Rattle.pitch_track.proofs.Track.deliver.Statement.{statement}
 use Rattle.pitch_track.proofs.Track.deliver.Tie as tie
@@ -55,7 +55,7 @@ refusal-requires : tie.Need-refusal-requires
 refusal-requires c κs = search needs
 
 returns : tie.Need-returns
-returns c = let a = c .before .before .before .args in sym (refuses (a .self) (a .table .now) (a .samples .now) (λ e. c .if1 .taken (c .before .refusal .ensures ∙ e)) ∙ ap (λ (n : ℕ). outcome (record { answer = Refused n; track = a .self }) (a .table .now)) (sym (c .before .refusal .ensures)))
+returns c = let a = c .before .before .before .args in delivers (a .self) (a .table .now) (a .samples .now) _ _ (sym (refuses (a .self) (a .table .now) (a .samples .now) (λ e. c .if1 .taken (c .before .refusal .ensures ∙ e)) ∙ ap (λ (n : ℕ). outcome (record { answer = Refused n; track = a .self }) (a .table .now)) (sym (c .before .refusal .ensures))))
 
 frame-length-requires : tie.Need-frame-length-requires
 frame-length-requires c κs = pass c .ok
@@ -114,7 +114,8 @@ returns-2 c =
     let e : q ≡ before s x (prevOf (a .self)) k = c .before .before .before .before .before .put-rows .ensures .0 ∙ ap (λ (p : Prev). before s x p k) prev in
     let size : length x ≡ k * hop + (n - k * hop) =
     omega (arith, length-pending (a .self .held) (a .samples .now) (a .self .count) (held-fits (c .before .before .before .before .before .before .before)), from-fits (c .before .before .before .before .before .before .before .before .before .before)) in
-    made (a .self) (a .table .now) (a .samples .now) k (a .self .frames + k) (c .before .before .gather .result) (n - k * hop)
+    delivers (a .self) (a .table .now) (a .samples .now) _ _
+    (made (a .self) (a .table .now) (a .samples .now) k (a .self .frames + k) (c .before .before .gather .result) (n - k * hop)
     (toZ w32 (ofZ w32 (q .lag))) (toZ w32 (ofZ w32 (q .correlation))) (c .before .before .before .before .before .put-rows .last .1 .1 .1 .1 .0)
     refl
     (c .before .before .gather .ensures
@@ -125,7 +126,7 @@ returns-2 c =
     (c .before .before .before .before .before .put-rows .ensures .1
     ∙ ap (λ (p : Prev). take (a .self .frames * 8) (a .table .now) ++ rowsOf s x p k ++ drop ((a .self .frames + k) * 8) (a .table .now)) prev)
     ∙ ap (acceptedOf (a .self) (a .table .now) (a .samples .now)) (new (c .before .before .before .before .before .before .before .before .before .before))
-    ∙ sym (accepts (a .self) (a .table .now) (a .samples .now) (sym (c .before .before .before .before .before .before .before .before .before .before .before .before .before .before .refusal .ensures) ∙ c .before .before .before .before .before .before .before .before .before .before .before .before .before .if1 .left))
+    ∙ sym (accepts (a .self) (a .table .now) (a .samples .now) (sym (c .before .before .before .before .before .before .before .before .before .before .before .before .before .before .refusal .ensures) ∙ c .before .before .before .before .before .before .before .before .before .before .before .before .before .if1 .left)))
 
 pub deliver-spec : {M : Type 1} → statement M
 deliver-spec =
