@@ -1,6 +1,6 @@
 -- Laws of an input's bytes: what follows the bytes of a number or of the settings does not change them, how many samples there are, and where they are loaded; and how large the settings' number is.
 -- Assumes nothing.
-use mathlib.Core.Path.{_≡_, ap, _∙_}
+use mathlib.Core.Path.{_≡_, sym, ap, _∙_}
 use mathlib.Core.Bool.{Bool, true, false, cond}
 use mathlib.Core.List.{List, _++_}
 use Prim.Native.Nat.{ℕ, _+_, _*_, _≤_}
@@ -8,8 +8,9 @@ use native.Mathlib.Omega.{arith}
 use lib.Dec.{leb}
 use lib.IntN.{ℤ}
 use lib.ListN.{length, take, drop, length-drop, List·getD-append}
-use lib.Seq.{drop-append-le, take-append-le, take-at, length-take-le}
+use lib.Seq.{drop-append-le, take-append-le, length-take-le}
 use Rattle.lists.specs.Fill.{filled, filled-all, length-table}
+use Rattle.lists.specs.Push.{headed, take-headed}
 use Rattle.sheet_bytes.specs.Bytes.{number-at, signed-at}
 use Rattle.pitch_settings.specs.declared.Settings.{Settings}
 use Rattle.pitch_settings.specs.Settings.{rate-known, subframes-known, settings-no}
@@ -37,11 +38,17 @@ pub samples-filled : (b : List ℕ) (at n : ℕ) (out : List ℤ) → length out
 unfolding samples-from
 samples-filled b at n out e = filled-all (λ (k : ℕ). sample-at b (at + 2 * k)) n out (omega arith)
 
--- samples that are loaded into the front of x
-pub loaded : (b : List ℕ) (at n : ℕ) (x out : List ℤ) → n ≤ length x → out ≡ samples-from b at (length (take n x)) → take n (out ++ drop n x) ≡ samples-from b at n
-loaded b at n x out h e =
-    ap (λ (o : List ℤ). take n (o ++ drop n x)) (e ∙ ap (samples-from b at) (length-take-le n x h))
-    ∙ take-at (samples-from b at n) (drop n x) n (length-samples b at n)
+-- samples that are loaded into the front of x: the whole list, and its front
+module _ (b : List ℕ) (at n : ℕ) (x out : List ℤ) (h : n ≤ length x) (e : out ≡ samples-from b at (length (take n x))) where
+  pub loaded-over : out ++ drop n x ≡ headed (samples-from b at n) x
+  unfolding headed
+  loaded-over =
+      let o = e ∙ ap (samples-from b at) (length-take-le n x h) in
+      let m = length-samples b at n in
+      ap (λ (l : List ℤ). l ++ drop n x) o ∙ ap (λ (k : ℕ). samples-from b at n ++ drop k x) (sym m)
+
+  pub loaded : take n (out ++ drop n x) ≡ samples-from b at n
+  loaded = ap (take n) loaded-over ∙ take-headed (samples-from b at n) x n (length-samples b at n)
 
 -- a refusal of settings is 1, 2 or 3
 pub settings-small : (s : Settings) → settings-no s ≤ 3

@@ -9,15 +9,26 @@ use mathlib.Core.Bool.{true, false, false≢true}
 use borrow.Author.Tests.{ltb-true}
 use lib.IntN.{ℤ, pos, negsuc, natAbs}
 use lib.Signed.{ltZ}
-use lib.ListN.{length, getD, take}
-use lib.Seq.{take-suc}
+use lib.ListN.{length, getD, take, drop}
+use lib.Seq.{take-suc, sets-eq}
 use mir.Syntax.{w32}
 use mir.Val.{SFits}
+use Rattle.lists.specs.Push.{headed}
 pub use Rattle.lists.specs.PutLaws.{put-then, put-as, put-end, put-one as put-byte, put-next, put-none, put-front}
 use Rattle.pitch_text.specs.Decimal.{digits, decimal}
 use Rattle.pitch_text.specs.DecimalLaws.{digits-few}
 use Rattle.pitch_table.specs.declared.Row.{Row}
-use Rattle.pitch_text.specs.Text.{fields, values-of, line-text, lines-text}
+use Rattle.pitch_text.specs.Text.{Put, fields, values-of, line-text, lines-text}
+
+-- a text that is written from the start on: how many bytes it has, and the whole list, the text laid over its front
+pub put-count : {l a xs : List ℕ} {end : ℕ} → Put l 0 xs end a → end ≡ length xs
+put-count {xs = xs} p = omega (arith, p .ends)
+
+pub put-over : {l a xs : List ℕ} {end : ℕ} → Put l 0 xs end a → end ≤ length l → a ≡ headed xs l
+unfolding headed
+put-over {l} {a} {xs} p h =
+    let z : 0 + length xs ≡ length xs = omega arith in
+    p .holds ∙ sets-eq xs l 0 (omega (arith, p .ends)) ∙ ap (λ (n : ℕ). xs ++ drop n l) z
 
 fields-append : (xs ys : List ℤ) → fields (xs ++ ys) ≡ fields xs ++ fields ys
 unfolding fields

@@ -1,34 +1,42 @@
 // What the program `sheet_write` writes: its input's bytes are taken apart, tracked, and written as a sheet.
 ghost use mathlib.Core.Path.{_≡_};
-ghost use mathlib.Core.List.{List, _++_};
-ghost use Prim.Native.Nat.{ℕ, _<_, _≤_};
-ghost use lib.ListN.{length, take};
+ghost use mathlib.Core.List.{List, [], _++_};
+ghost use Prim.Native.Nat.{ℕ, _/_, _<_, _≤_};
+ghost use lib.ListN.{length};
+ghost use Rattle.lists.specs.Push.{headed};
 ghost use Rattle.pitch_settings.specs.Settings.{settings-no};
-ghost use Rattle.pitch_track.specs.Paper.{F};
+ghost use Rattle.pitch_track.specs.Paper.{paperNo, tableOf};
+ghost use Rattle.track_text.specs.Program.{printed};
 ghost use Rattle.track_sheet.specs.Accepted.{paper-sheet};
-ghost use Rattle.sheet_write_bytes.specs.Program.{sheet-written};
+ghost use Rattle.sheet_write_bytes.specs.Program.{writtenOf};
 use pitch_input::load_samples;
 use pitch_input::settings_in;
 use pitch_settings::Settings;
 use pitch_sheet::Wrote;
+use pitch_sheet::write_sheet;
 use pitch_text::put_refused;
-use track_sheet::track_sheet;
+use pitch_track::Track;
 use track_text::program_no;
 
-// The sheet of the samples x, in the first bytes of `out`; how many they are. It is never refused: 8,228 bytes have room for 1,024 voiced frames.
+// The sheet of the samples x, in the first bytes of `out`, and its rows in the table; how many bytes it has. A track is started, fed and written: the writing takes what the delivery took.
 fn put_track(s: Settings, x: &[i16], table: &mut [i32], out: &mut [u8]) -> usize
-    requires { ⌜ (settings-no s ≡ 0) × (F s (length (now x)) ≤ 1024) × (8192 ≤ length (now table)) × (8228 ≤ length (now out)) ⌝ }
-    ensures { λ r. ⌜ (take r (now (out .exit)) ≡ paper-sheet s (now (x .entry))) × (r ≤ 8228) ⌝ }
+    requires { ⌜ (settings-no s ≡ 0) × (paperNo s (length (now table) / 8) [] (now x) ≡ 0) × (length (paper-sheet s (now x)) ≤ length (now out)) ⌝ }
+    ensures { λ r. ⌜ (r ≡ length (paper-sheet s (now (x .entry)))) × (now (out .exit) ≡ headed (paper-sheet s (now (x .entry))) (now (out .entry))) × (now (table .exit) ≡ tableOf s (now (table .entry)) (now (x .entry))) ⌝ }
 {
-    let w = track_sheet(s, x, table, out);
+    let started = Track::start(s);
+    let track = started.track;
+    let d = track.deliver(x, table);
+    let done = d.track;
+    let frames = done.frames;
+    let w = write_sheet(s, frames, table, out);
     let Wrote::Written(n) = w else {
         return 0;
     };
     n
 }
 
-// The bytes for an input that begins with these bytes and has `more` after them, in the first bytes of `out`; how many they are. What the call leaves in the other bytes of
-// `out`, in `samples` and in `table` is free.
+// The bytes for an input that begins with these bytes and has `more` after them, in the first bytes of `out`; how many they are. The input's samples are left in the first places of
+// `samples` and its rows in the first rows of `table`, by a refusal nothing; all else stays.
 pub fn sheet_write_bytes(
     input: &[u8],
     more: usize,
@@ -37,7 +45,7 @@ pub fn sheet_write_bytes(
     out: &mut [u8],
 ) -> usize
     requires { ⌜ (0 < more → 656651 ≤ length (now input)) × (328320 ≤ length (now samples)) × (8192 ≤ length (now table)) × (8228 ≤ length (now out)) ⌝ }
-    ensures { λ r. ⌜ ((rest : List ℕ) → length rest ≡ more → take r (now (out .exit)) ≡ sheet-written (now (input .entry) ++ rest)) ⌝ }
+    ensures { λ r. ⌜ ((rest : List ℕ) → length rest ≡ more → printed r (now (out .exit)) (now (samples .exit)) (now (table .exit)) ≡ writtenOf (now (input .entry) ++ rest) (now (out .entry)) (now (samples .entry)) (now (table .entry))) ⌝ }
     ensures { λ r. ⌜ r ≤ 8228 ⌝ }
 {
     let no = program_no(input, more);

@@ -1,16 +1,16 @@
--- The program `track` (document 01, "Program"): the text that it prints, as a function of all bytes of its input. Definitions only.
+-- The program `track` (document 01, "Program"): the text that it prints, as a function of all bytes of its input, and what its call leaves in each lent place. Definitions only.
 use mathlib.Core.Bool.{Bool, _||_, cond}
 use mathlib.Core.Path.{_≡_}
 use mathlib.Core.List.{List, [], _∷_, _++_}
-use Prim.Native.Nat.{ℕ, _+_, _-_, _*_, _/_, _%_, _<_}
+use Prim.Native.Nat.{ℕ, _+_, _-_, _*_, _/_, _%_}
 use lib.Dec.{ltb, eqb}
 use lib.IntN.{ℤ}
 use lib.ListN.{length}
+use Rattle.lists.specs.Push.{headed}
 use Rattle.pitch_input.specs.Input.{settings-in, samples-from}
 use Rattle.pitch_settings.specs.declared.Settings.{Settings}
 use Rattle.pitch_settings.specs.Settings.{settings-no, frame-length, hop-length}
-use Rattle.pitch_table.specs.Row.{row-at}
-use Rattle.pitch_track.specs.Paper.{F, rowAt, nothing}
+use Rattle.pitch_track.specs.Paper.{F, rowAt, nothing, tableOf}
 use Rattle.pitch_text.specs.Decimal.{digits}
 use Rattle.pitch_text.specs.Text.{lines-text, refused-text}
 
@@ -46,7 +46,35 @@ report s x = head-text (F s (length x)) (samples-left s (length x)) ++ lines-tex
 unfoldable pub track-text : List ℕ → List ℕ
 track-text b = cond (eqb (program-no b) 0) (report (settings-in b) (samples-in b)) (refused-text (program-no b))
 
--- a table that has the rows of x, and how many they are: what the program's own track leaves before its text is written
-pub record Tracked (s : Settings) (x : List ℤ) (frames : ℕ) (table : List ℤ) : Type 0 where
+-- ---- the whole outcome of a call
+
+-- how many bytes were written, and the lent lists at the end
+pub record Printed : Type 0 where
+  pub len : ℕ
+  pub out : List ℕ
+  pub samples : List ℤ
+  pub table : List ℤ
+
+abbrev pub printed : ℕ → List ℕ → List ℤ → List ℤ → Printed
+printed len out samples table = record { len = len; out = out; samples = samples; table = table }
+
+-- the lent samples after the input b: its samples over their front; a refusal leaves them
+unfoldable pub samples-after : List ℕ → List ℤ → List ℤ
+samples-after b samples = cond (eqb (program-no b) 0) (headed (samples-in b) samples) samples
+
+-- the lent table after the input b: the rows of its track on paper, and then what the table had; a refusal leaves it
+unfoldable pub table-after : List ℕ → List ℤ → List ℤ
+table-after b table = cond (eqb (program-no b) 0) (tableOf (settings-in b) table (samples-in b)) table
+
+-- the input b answered by a text: the text over the front of `out`
+unfoldable pub answered : List ℕ → List ℕ → List ℕ → List ℤ → List ℤ → Printed
+answered b text out samples table = printed (length text) (headed text out) (samples-after b samples) (table-after b table)
+
+-- what `track_text` leaves of `out`, `samples` and `table` for the input b
+unfoldable pub printedOf : List ℕ → List ℕ → List ℤ → List ℤ → Printed
+printedOf b = answered b (track-text b)
+
+-- the frame count of x, and the table with its rows: what the program's own track leaves before its text is written
+pub record Tracked (s : Settings) (x before : List ℤ) (frames : ℕ) (table : List ℤ) : Type 0 where
   pub count : frames ≡ F s (length x)
-  pub rows : (i : ℕ) → i < frames → row-at table i ≡ rowAt s x nothing i
+  pub rows : table ≡ tableOf s before x

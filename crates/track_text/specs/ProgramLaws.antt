@@ -1,4 +1,4 @@
--- Laws of the program's text: the settings and samples of an input's first bytes, the limit of 1,024 frames, the refusal's number, and the rows of a fresh track.
+-- Laws of the program's text: the settings and samples of an input's first bytes, the limit of 1,024 frames, the refusal's number, the whole outcome, and the rows of a fresh track.
 -- Assumes nothing.
 use mathlib.Core.Path.{_≡_, refl, sym, ap, _∙_, subst}
 use mathlib.Core.Bool.{Bool, true, false, _||_, cond}
@@ -12,6 +12,7 @@ use lib.Dec.{ltb, leb, eqb}
 use lib.IntN.{ℤ, pos}
 use lib.ListN.{length, getD, take, drop, replicate, length-append, length-replicate}
 use lib.Seq.{getD-take, getD-drop}
+use Rattle.lists.specs.Push.{headed}
 use Rattle.pitch_input.specs.Input.{settings-in}
 use Rattle.pitch_input.specs.InputLaws.{settings-front, settings-small, length-samples}
 use Rattle.pitch_settings.specs.declared.Settings.{Settings}
@@ -19,13 +20,13 @@ use Rattle.pitch_settings.specs.Settings.{settings-no, frame-length, hop-length
 use Rattle.pitch_settings.specs.SettingsLaws.{accepted}
 use Rattle.pitch_table.specs.declared.Row.{Row}
 use Rattle.pitch_table.specs.Row.{numbers, row-at}
-use Rattle.pitch_track.specs.Paper.{F, nothing}
+use Rattle.pitch_track.specs.Paper.{F, nothing, rowAt, rowsOf, tableOf}
 use Rattle.pitch_track.specs.Step.{startOf, freshOf, refusalOf, noOf, pendingOf, acceptedOf, deliverOf, Outcome}
 use Rattle.pitch_track.proofs.Frames.{lt-or-le, fits, many}
 use Rattle.pitch_track.proofs.Rows.{row-in}
 use Rattle.pitch_track.proofs.Deliver.{accepts}
 use Rattle.pitch_text.specs.Text.{refused-text}
-use Rattle.track_text.specs.Program.{Tracked, samples-in, half-input, first-no, program-no, samples-left, report, track-text}
+use Rattle.track_text.specs.Program.{Tracked, samples-in, half-input, first-no, program-no, samples-left, report, track-text, printed, samples-after, table-after, answered}
 
 -- ---- the limit
 pub hop-small : (s : Settings) → settings-no s ≡ 0 → hop-length s ≤ 320
@@ -191,17 +192,29 @@ nothing-left : (r : List ℕ) → length r ≡ 0 → r ≡ []
 nothing-left [] e = refl
 nothing-left (x ∷ r) e = absurd (omega arith)
 
+-- no byte follows
+pub none-after : (b r : List ℕ) (more : ℕ) → more ≡ 0 → length r ≡ more → b ++ r ≡ b
+none-after b r more m l = ap (λ (t : List ℕ). b ++ t) (nothing-left r (l ∙ m)) ∙ append-nil b
+
 -- ---- the text
 pub text-refused : (b : List ℕ) (n : ℕ) → n ≡ program-no b → (n ≡ 0 → ⊥) → refused-text n ≡ track-text b
 unfolding track-text
 text-refused b n e h = rw (← e, ne-eqb n 0 h)
 
-pub text-report : (b r : List ℕ) (more n : ℕ) → more ≡ 0 → length r ≡ more → n ≡ program-no (b ++ r) → n ≡ 0 → report (settings-in b) (samples-in b) ≡ track-text (b ++ r)
+pub text-report : (b : List ℕ) → program-no b ≡ 0 → report (settings-in b) (samples-in b) ≡ track-text b
 unfolding track-text
-text-report b r more n m l e z =
-    let k : r ≡ [] = nothing-left r (l ∙ m) in
-    let g : b ++ r ≡ b = ap (λ (t : List ℕ). b ++ t) k ∙ append-nil b in
-    rw (g, eq-eqb (program-no b) 0 (ap program-no (sym g) ∙ sym e ∙ z))
+text-report b e = rw (eq-eqb (program-no b) 0 e)
+
+-- ---- the whole outcome: a text that is laid over the front of `out`
+module _ (b text out : List ℕ) (x t : List ℤ) {len : ℕ} {after : List ℕ} (count : len ≡ length text) (over : after ≡ headed text out) where
+  -- a refusal leaves samples and table
+  pub answer-refused : (n : ℕ) → n ≡ program-no b → (n ≡ 0 → ⊥) → printed len after x t ≡ answered b text out x t
+  unfolding answered samples-after table-after
+  answer-refused n e h = rw (← e, ne-eqb n 0 h) (λ i. printed (count i) (over i) x t)
+
+  pub answer-taken : program-no b ≡ 0 → {y u : List ℤ} → y ≡ headed (samples-in b) x → u ≡ tableOf (settings-in b) t (samples-in b) → printed len after y u ≡ answered b text out x t
+  unfolding answered samples-after table-after
+  answer-taken e p q = rw (eq-eqb (program-no b) 0 e) (λ i. printed (count i) (over i) (p i) (q i))
 
 -- ---- the rows of a fresh track
 
@@ -233,14 +246,20 @@ module _ (s : Settings) (t x : List ℤ) (e : settings-no s ≡ 0) (few : F s (l
       rw (eq-eqb (settings-no s) 0 e, zero-add (length x), zero-add (F s (length x)), le-ltb 4096 (F s (length x)) c, lt-leb (frame-length s) 0 p, le-ltb (length t / 8) (F s (length x)) f)
       (same (ltb 0 (F s (length x))))
 
-  pub tracked : (d : Outcome) → d ≡ deliverOf (startOf s .track) t x → Tracked s x (d .delivered .track .frames) (d .table)
-  unfolding startOf freshOf acceptedOf pendingOf
+  pub tracked : (d : Outcome) → d ≡ deliverOf (startOf s .track) t x → Tracked s x t (d .delivered .track .frames) (d .table)
+  unfolding startOf freshOf acceptedOf pendingOf tableOf
   tracked d g =
       let k = F s (0 + length x) in
       let o = g ∙ accepts (freshOf s) t x taken in
-      let n : 0 + k ≡ F s (length x) = zero-add k ∙ ap (F s) (zero-add (length x)) in
-      let c : d .delivered .track .frames ≡ 0 + k = ap (λ (v : Outcome). v .delivered .track .frames) o in
+      let m : k ≡ F s (length x) = ap (F s) (zero-add (length x)) in
+      let n : 0 + k ≡ F s (length x) = zero-add k ∙ m in
       record {
-        count = c ∙ n;
-        rows = λ i h. ap (λ (v : Outcome). row-at (v .table) i) o ∙ row-from _ i _ (row-in s x nothing k i (drop ((0 + k) * 8) t) (omega arith));
+        count = ap (λ (v : Outcome). v .delivered .track .frames) o ∙ n;
+        rows = ap (λ (v : Outcome). v .table) o ∙ (λ i. rowsOf s x nothing (m i) ++ drop (n i * 8) t);
       }
+
+-- row i of the table that is left
+pub tracked-row : (s : Settings) (x t : List ℤ) (f : ℕ) (u : List ℤ) → Tracked s x t f u → (i : ℕ) → i < f → row-at u i ≡ rowAt s x nothing i
+unfolding tableOf
+tracked-row s x t f u g i h =
+    ap (λ (l : List ℤ). row-at l i) (g .rows) ∙ row-from _ i _ (row-in s x nothing (F s (length x)) i (drop (F s (length x) * 8) t) (omega (arith, g .count)))

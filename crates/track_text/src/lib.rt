@@ -3,11 +3,11 @@ ghost use mathlib.Core.Path.{_≡_};
 ghost use mathlib.Core.List.{List, _++_};
 ghost use Prim.Native.Nat.{ℕ, _+_, _<_, _≤_};
 ghost use lib.Dec.{ltb};
-ghost use lib.ListN.{length, take};
+ghost use lib.ListN.{length};
 ghost use Rattle.pitch_settings.specs.Settings.{settings-no};
-ghost use Rattle.pitch_track.specs.Paper.{F};
+ghost use Rattle.pitch_track.specs.Paper.{F, tableOf};
 ghost use Rattle.pitch_text.specs.Text.{Put};
-ghost use Rattle.track_text.specs.Program.{first-no, program-no, samples-left, head-text, report, track-text, Tracked};
+ghost use Rattle.track_text.specs.Program.{first-no, program-no, samples-left, head-text, report, printed, printedOf, Tracked};
 use pitch_input::load_samples;
 use pitch_input::settings_in;
 use pitch_settings::Settings;
@@ -79,7 +79,7 @@ fn samples_left(s: Settings, n: usize, frames: usize) -> usize
 // The rows of a fresh track of x, in the table; their number.
 fn track_rows(s: Settings, x: &[i16], table: &mut [i32]) -> usize
     requires { ⌜ (settings-no s ≡ 0) × (F s (length (now x)) ≤ 1024) × (8192 ≤ length (now table)) ⌝ }
-    ensures { λ r. ⌜ Tracked s (now (x .entry)) r (now (table .exit)) ⌝ }
+    ensures { λ r. ⌜ Tracked s (now (x .entry)) (now (table .entry)) r (now (table .exit)) ⌝ }
 {
     let started = Track::start(s);
     let track = started.track;
@@ -100,10 +100,10 @@ fn put_head(out: &mut [u8], frames: u32, left: u32) -> usize
     q + 1
 }
 
-// The text for the samples x.
+// The text for the samples x, and its rows in the table.
 fn put_report(s: Settings, x: &[i16], table: &mut [i32], out: &mut [u8]) -> usize
     requires { ⌜ (settings-no s ≡ 0) × (F s (length (now x)) ≤ 1024) × (8192 ≤ length (now table)) × (99350 ≤ length (now out)) ⌝ }
-    ensures { λ r. ⌜ Put (now (out .entry)) 0 (report s (now (x .entry))) r (now (out .exit)) × (r ≤ 99350) ⌝ }
+    ensures { λ r. ⌜ Put (now (out .entry)) 0 (report s (now (x .entry))) r (now (out .exit)) × (r ≤ 99350) × (now (table .exit) ≡ tableOf s (now (table .entry)) (now (x .entry))) ⌝ }
 {
     let frames = track_rows(s, x, table);
     let left = samples_left(s, x.len(), frames);
@@ -111,8 +111,8 @@ fn put_report(s: Settings, x: &[i16], table: &mut [i32], out: &mut [u8]) -> usiz
     put_lines(out, p, s.nb, table, frames)
 }
 
-// The text for an input that begins with these bytes and has `more` after them, in the first bytes of `out`; how many they are. What the call leaves in the other bytes of
-// `out`, in `samples` and in `table` is free.
+// The text for an input that begins with these bytes and has `more` after them, in the first bytes of `out`; how many they are. The input's samples are left in the first places of
+// `samples` and its rows in the first rows of `table`, by a refusal nothing; all else stays.
 pub fn track_text(
     input: &[u8],
     more: usize,
@@ -121,7 +121,7 @@ pub fn track_text(
     out: &mut [u8],
 ) -> usize
     requires { ⌜ (0 < more → 656651 ≤ length (now input)) × (328320 ≤ length (now samples)) × (8192 ≤ length (now table)) × (99350 ≤ length (now out)) ⌝ }
-    ensures { λ r. ⌜ ((rest : List ℕ) → length rest ≡ more → take r (now (out .exit)) ≡ track-text (now (input .entry) ++ rest)) ⌝ }
+    ensures { λ r. ⌜ ((rest : List ℕ) → length rest ≡ more → printed r (now (out .exit)) (now (samples .exit)) (now (table .exit)) ≡ printedOf (now (input .entry) ++ rest) (now (out .entry)) (now (samples .entry)) (now (table .entry))) ⌝ }
     ensures { λ r. ⌜ r ≤ 99350 ⌝ }
 {
     let no = program_no(input, more);

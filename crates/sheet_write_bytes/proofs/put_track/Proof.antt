@@ -1,11 +1,28 @@
 -- `sheet_write_bytes::put_track` meets its contract. Assumes nothing.
-use Rattle.sheet_write_bytes.specs.ProgramLaws.{never-refused, sheet-put}
+use mathlib.Core.Path.{_≡_, ap, _∙_}
+use Rattle.pitch_track.specs.declared.Started.{Started}
+use Rattle.pitch_track.specs.Step.{outcome, startOf, deliverOf}
+use Rattle.sheet_write_bytes.specs.ProgramLaws.{rows-left, never-refused, sheet-put}
 use borrow.Author.Needs.{needs}
 use Rattle.sheet_write_bytes.proofs.put_track.Statement.{statement}
 use Rattle.sheet_write_bytes.proofs.put_track.Tie as tie
 
-track-sheet-requires : tie.Need-track-sheet-requires
-track-sheet-requires c κs = search needs
+-- what the delivery leaves
+module _ (c : tie.After-deliver) where
+  abbrev start : tie.Start
+  start = c .before .before .before .before .before
+
+  delivered : outcome (c .deliver .result) (c .deliver .last .1 .1 .0) ≡ deliverOf (startOf (start .args .s) .track) (start .args .table .now) (start .args .x .now)
+  delivered = c .deliver .ensures ∙ ap (λ (r : Started). deliverOf (r .track) (start .args .table .now) (start .args .x .now)) (c .before .before .before .start .ensures)
+
+start-requires : tie.Need-start-requires
+start-requires c κs = search needs
+
+deliver-requires : tie.Need-deliver-requires
+deliver-requires c κs = search needs
+
+write-sheet-requires : tie.Need-write-sheet-requires
+write-sheet-requires c κs = search needs
 
 enum-known-w : tie.Need-enum-known-w
 enum-known-w c = search needs
@@ -21,10 +38,11 @@ same-length-2 c = search needs
 
 returns : tie.Need-returns
 returns c =
-    let q = c .before .before .before .before .before in
-    let a = q .before .before .before .before in
+    let w = c .before .before .before .before in
+    let d = w .before .before .before .before .before in
+    let a = start d in
     let g = c .enum-told .given in
-    absurd (never-refused (a .args .s) (a .args .table .now) (a .args .x .now) (a .args .out .now) (a .pre .0) (a .pre .1) (a .pre .2) (a .pre .3) (q .track-sheet .result) (q .track-sheet .last .1 .1 .0) (q .track-sheet .last .1 .1 .1 .0) (q .track-sheet .ensures) (g .0 .0) (g .1))
+    absurd (never-refused (a .args .s) (a .args .table .now) (a .args .x .now) (a .args .out .now) (a .pre .0) (a .pre .1) (a .pre .2) (outcome (d .deliver .result) (d .deliver .last .1 .1 .0)) (delivered d) (w .write-sheet .result) (w .write-sheet .last .1 .1 .1 .0) (w .write-sheet .ensures) (g .0 .0) (g .1))
 
 same-length-3 : tie.Need-same-length-3
 same-length-3 c = search needs
@@ -34,16 +52,22 @@ same-length-4 c = search needs
 
 returns-2 : tie.Need-returns-2
 returns-2 c =
-    let q = c .before .before .before .before .before .before in
-    let a = q .before .before .before .before in
+    let w = c .before .before .before .before .before in
+    let d = w .before .before .before .before .before in
+    let a = start d in
     let g = c .before .w .given in
-    sheet-put (a .args .s) (a .args .table .now) (a .args .x .now) (a .args .out .now) (a .pre .0) (a .pre .1) (a .pre .2) (a .pre .3) (q .track-sheet .result) (q .track-sheet .last .1 .1 .0) (q .track-sheet .last .1 .1 .1 .0) (q .track-sheet .ensures) (g .0 .0) (g .1)
+    let o = outcome (d .deliver .result) (d .deliver .last .1 .1 .0) in
+    let p =
+    sheet-put (a .args .s) (a .args .table .now) (a .args .x .now) (a .args .out .now) (a .pre .0) (a .pre .1) (a .pre .2) o (delivered d) (w .write-sheet .result) (w .write-sheet .last .1 .1 .1 .0) (w .write-sheet .ensures) (g .0 .0) (g .1) in
+    (p .0, p .1, rows-left (a .args .s) (a .args .table .now) (a .args .x .now) (a .args .out .now) (a .pre .0) (a .pre .1) (a .pre .2) o (delivered d))
 
 pub put-track-spec : {M : Type 1} → statement M
 put-track-spec =
     tie.close
     (tie.spec
-    track-sheet-requires
+    start-requires
+    deliver-requires
+    write-sheet-requires
     enum-known-w
     enum-told
     same-length

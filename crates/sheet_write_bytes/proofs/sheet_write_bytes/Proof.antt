@@ -1,17 +1,21 @@
 -- `sheet_write_bytes::sheet_write_bytes` meets its contract. Assumes nothing.
 use mathlib.Core.Path.{_≡_, sym, ap, ap₂, _∙_}
-use mathlib.Core.List.{_++_}
+use mathlib.Core.List.{List, _++_}
 use Prim.Native.Nat.{ℕ, _-_, _/_, _≤_}
 use native.Mathlib.Omega.{arith}
+use lib.IntN.{ℤ}
 use lib.ListN.{length, take, drop, length-append, length-drop}
 use lib.Seq.{length-take-le}
+use Rattle.lists.specs.Push.{headed}
 use Rattle.pitch_settings.specs.Settings.{settings-no}
-use Rattle.pitch_input.specs.InputLaws.{loaded}
-use Rattle.pitch_text.specs.TextLaws.{put-front}
-use Rattle.track_text.specs.Program.{samples-in}
-use Rattle.track_text.specs.ProgramLaws.{Ready, at-hand, small-number, few-samples, samples-count}
+use Rattle.pitch_input.specs.InputLaws.{loaded, loaded-over}
+use Rattle.pitch_track.specs.Paper.{F, tableOf}
+use Rattle.pitch_text.specs.TextLaws.{put-as, put-count, put-over}
+use Rattle.track_text.specs.Program.{samples-in, program-no}
+use Rattle.track_text.specs.ProgramLaws.{Ready, at-hand, small-number, few-samples, samples-count, none-after, answer-refused, answer-taken}
 use Rattle.track_sheet.specs.Accepted.{paper-sheet}
-use Rattle.sheet_write_bytes.specs.ProgramLaws.{written-refused, written-sheet}
+use Rattle.sheet_write_bytes.specs.Program.{writtenOf}
+use Rattle.sheet_write_bytes.specs.ProgramLaws.{written-refused, written-sheet, small-sheet, few-taken}
 use Rattle.sheet_write_bytes.proofs.sheet_write_bytes.Statement.{statement}
 use Rattle.sheet_write_bytes.proofs.sheet_write_bytes.Tie as tie
 
@@ -35,9 +39,23 @@ module _ (c : tie.After-load-samples) where
   front : length (c .load-samples .last .1 .1 .0) ≡ count (c .before .before .before)
   front = c .load-samples .kept .1 .1 .0 ∙ length-take-le _ (c .before .before .before .before .before .before .before .args .samples .now) (room (c .before .before .before))
 
-  x-is : take (count (c .before .before .before)) (c .load-samples .last .1 .1 .0 ++ drop (count (c .before .before .before)) (c .before .before .before .before .before .before .before .args .samples .now)) ≡ samples-in (c .before .before .before .before .before .before .before .args .input .now)
+  abbrev x : List ℤ
+  x = take (count (c .before .before .before)) (c .load-samples .last .1 .1 .0 ++ drop (count (c .before .before .before)) (c .before .before .before .before .before .before .before .args .samples .now))
+
+  x-is : x ≡ samples-in (c .before .before .before .before .before .before .before .args .input .now)
   unfolding samples-in
   x-is = loaded (c .before .before .before .before .before .before .before .args .input .now) 11 (count (c .before .before .before)) (c .before .before .before .before .before .before .before .args .samples .now) (c .load-samples .last .1 .1 .0) (room (c .before .before .before)) (c .load-samples .ensures)
+
+  whole-is : c .load-samples .last .1 .1 .0 ++ drop (count (c .before .before .before)) (c .before .before .before .before .before .before .before .args .samples .now) ≡ headed (samples-in (c .before .before .before .before .before .before .before .args .input .now)) (c .before .before .before .before .before .before .before .args .samples .now)
+  unfolding samples-in
+  whole-is = loaded-over (c .before .before .before .before .before .before .before .args .input .now) 11 (count (c .before .before .before)) (c .before .before .before .before .before .before .before .args .samples .now) (c .load-samples .last .1 .1 .0) (room (c .before .before .before)) (c .load-samples .ensures)
+
+  -- they have at most 1,024 frames, and a sheet of at most 8,228 bytes
+  few : F (c .before .before .settings-in .result) (length x) ≤ 1024
+  few = rw (c .before .before .settings-in .ensures, x-is) (whole (c .before .before .before) .1 .few)
+
+  small : length (paper-sheet (c .before .before .settings-in .result) x) ≤ 8228
+  small = small-sheet (c .before .before .settings-in .result) x few
 
 program-no-requires : tie.Need-program-no-requires
 program-no-requires c κs = c .before .before .pre .0
@@ -54,11 +72,17 @@ same-length : tie.Need-same-length
 same-length c = c .before .before .put-refused .kept .0
 
 returns : tie.Need-returns
+unfolding writtenOf
 returns c =
     let s = c .before .before .before .before .before .before .before .before in
     let p = c .before .before .before .before .before .program-no in
-    let w = c .before .before .put-refused .ensures in (
-      λ rest e. put-front (w .0) (omega (arith, w .1, s .pre .3)) ∙ written-refused (s .args .input .now ++ rest) (p .result) (p .ensures rest e) (c .before .before .before .before .if1 .taken),
+    let w = c .before .before .put-refused .ensures in
+    let out = s .args .out .now in (
+      λ rest e.
+          let b = s .args .input .now ++ rest in
+          let wrong = c .before .before .before .before .if1 .taken in
+          let q = put-as (w .0) (written-refused b (p .result) (p .ensures rest e) wrong) in
+          answer-refused b _ out _ _ (put-count q) (put-over q (omega (arith, w .1, s .pre .3))) (p .result) (p .ensures rest e) wrong,
       omega (arith, w .1),
     )
 
@@ -87,13 +111,8 @@ slice-aggregate-put-track c = sym (length-take-le _ _ (rw length-append (omega (
 put-track-requires : tie.Need-put-track-requires
 put-track-requires c κs =
     let d = c .before .before .before .before in
-    let w = whole (d .before .before .before) .1 in
-    let k = d .before .before .settings-in .ensures in (
-      ap settings-no k ∙ w .known,
-      rw (k, x-is d) (w .few),
-      c .before .before .before .before .before .before .before .before .before .before .before .pre .2,
-      c .before .before .before .before .before .before .before .before .before .before .before .pre .3,
-    )
+    let s = c .before .before .before .before .before .before .before .before .before .before .before in
+    (ap settings-no (d .before .before .settings-in .ensures) ∙ whole (d .before .before .before) .1 .known, few-taken _ (x d) (few d) (s .args .table .now) (s .pre .2), omega (arith, small d, s .pre .3))
 
 same-length-2 : tie.Need-same-length-2
 same-length-2 c =
@@ -108,15 +127,22 @@ same-length-4 : tie.Need-same-length-4
 same-length-4 c = c .before .before .before .put-track .kept .1 .1 .1 .0
 
 returns-2 : tie.Need-returns-2
+unfolding writtenOf
 returns-2 c =
     let s = c .before .before .before .before .before .before .before .before .before .before .before .before .before .before .before in
     let p = c .before .before .before .before .before .before .before .before .before .before .before .before .program-no in
     let d = c .before .before .before .before .before .before .before .before in
     let w = c .before .before .before .put-track .ensures in
-    let k = ap₂ paper-sheet (d .before .before .settings-in .ensures) (x-is d) in (
-      λ rest e. w .0 ∙ k
-          ∙ written-sheet (s .args .input .now) rest (s .args .more) (p .result) (whole (d .before .before .before) .0) e (p .ensures rest e) (c .before .before .before .before .before .before .before .before .before .before .before .if1 .left),
-      w .1,
+    let b = s .args .input .now in
+    let out = s .args .out .now in
+    let settings = d .before .before .settings-in .ensures in (
+      λ rest e.
+          let g = none-after b rest (s .args .more) (whole (d .before .before .before) .0) e in
+          let z = ap program-no (sym g) ∙ sym (p .ensures rest e) ∙ c .before .before .before .before .before .before .before .before .before .before .before .if1 .left in
+          let k = ap₂ paper-sheet settings (x-is d) ∙ written-sheet b z in
+          answer-taken b _ out _ _ (w .0 ∙ ap length k) (w .1 ∙ ap (λ (l : List ℕ). headed l out) k) z (whole-is d) (w .2 ∙ (λ i. tableOf (settings i) (s .args .table .now) (x-is d i)))
+          ∙ ap (λ (l : List ℕ). writtenOf l out (s .args .samples .now) (s .args .table .now)) (sym g),
+      omega (arith, w .0, small d),
     )
 
 pub sheet-write-bytes-spec : {M : Type 1} → statement M

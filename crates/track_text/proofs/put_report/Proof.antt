@@ -8,7 +8,7 @@ use Rattle.pitch_track.specs.Paper.{rowAt, nothing}
 use Rattle.pitch_text.specs.Text.{lines-text}
 use Rattle.pitch_text.specs.TextLaws.{put-then, put-as, lines-same}
 use Rattle.track_text.specs.Program.{head-text, report}
-use Rattle.track_text.specs.ProgramLaws.{few-samples, left-within}
+use Rattle.track_text.specs.ProgramLaws.{few-samples, left-within, tracked-row}
 use Rattle.track_text.proofs.put_report.Statement.{statement}
 use Rattle.track_text.proofs.put_report.Tie as tie
 
@@ -60,8 +60,8 @@ returns c =
     let l = c .before .before .put-lines .ensures in
     let t = d .track-rows .ensures in
     let e = ap₂ head-text (t .count) (c .before .before .before .before .before .before .before .before .before .samples-left .ensures) in
-    let g = lines-same nb _ (rowAt (s .args .s) (s .args .x .now) nothing) _ (t .rows) ∙ ap (lines-text nb (rowAt (s .args .s) (s .args .x .now) nothing)) (t .count) in
-    (put-then (put-as (h .0) e) (put-as (l .0) g), omega (arith, l .1, h .1, few d))
+    let g = lines-same nb _ (rowAt (s .args .s) (s .args .x .now) nothing) _ (tracked-row _ _ _ _ _ t) ∙ ap (lines-text nb (rowAt (s .args .s) (s .args .x .now) nothing)) (t .count) in
+    (put-then (put-as (h .0) e) (put-as (l .0) g), omega (arith, l .1, h .1, few d), t .rows)
 
 pub put-report-spec : {M : Type 1} → statement M
 put-report-spec =

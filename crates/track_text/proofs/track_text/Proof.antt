@@ -1,15 +1,17 @@
 -- `track_text::track_text` meets its contract. Assumes nothing.
 use mathlib.Core.Path.{_≡_, sym, ap, ap₂, _∙_}
-use mathlib.Core.List.{_++_}
+use mathlib.Core.List.{List, _++_}
 use Prim.Native.Nat.{ℕ, _-_, _/_, _≤_}
 use native.Mathlib.Omega.{arith}
 use lib.ListN.{length, take, drop, length-append, length-drop}
 use lib.Seq.{length-take-le}
 use Rattle.pitch_settings.specs.Settings.{settings-no}
-use Rattle.pitch_input.specs.InputLaws.{loaded}
-use Rattle.pitch_text.specs.TextLaws.{put-front, put-as}
-use Rattle.track_text.specs.Program.{samples-in, report}
-use Rattle.track_text.specs.ProgramLaws.{Ready, at-hand, small-number, few-samples, samples-count, text-refused, text-report}
+use Rattle.lists.specs.Push.{headed}
+use Rattle.pitch_input.specs.InputLaws.{loaded, loaded-over}
+use Rattle.pitch_track.specs.Paper.{tableOf}
+use Rattle.pitch_text.specs.TextLaws.{put-as, put-count, put-over}
+use Rattle.track_text.specs.Program.{samples-in, program-no, report, answered, printedOf}
+use Rattle.track_text.specs.ProgramLaws.{Ready, at-hand, small-number, few-samples, samples-count, none-after, text-refused, text-report, answer-refused, answer-taken}
 use Rattle.track_text.proofs.track_text.Statement.{statement}
 use Rattle.track_text.proofs.track_text.Tie as tie
 
@@ -37,6 +39,10 @@ module _ (c : tie.After-load-samples) where
   unfolding samples-in
   x-is = loaded (c .before .before .before .before .before .before .before .args .input .now) 11 (count (c .before .before .before)) (c .before .before .before .before .before .before .before .args .samples .now) (c .load-samples .last .1 .1 .0) (room (c .before .before .before)) (c .load-samples .ensures)
 
+  whole-is : c .load-samples .last .1 .1 .0 ++ drop (count (c .before .before .before)) (c .before .before .before .before .before .before .before .args .samples .now) ≡ headed (samples-in (c .before .before .before .before .before .before .before .args .input .now)) (c .before .before .before .before .before .before .before .args .samples .now)
+  unfolding samples-in
+  whole-is = loaded-over (c .before .before .before .before .before .before .before .args .input .now) 11 (count (c .before .before .before)) (c .before .before .before .before .before .before .before .args .samples .now) (c .load-samples .last .1 .1 .0) (room (c .before .before .before)) (c .load-samples .ensures)
+
 program-no-requires : tie.Need-program-no-requires
 program-no-requires c κs = c .before .before .pre .0
 
@@ -52,11 +58,17 @@ same-length : tie.Need-same-length
 same-length c = c .before .before .put-refused .kept .0
 
 returns : tie.Need-returns
+unfolding printedOf
 returns c =
     let s = c .before .before .before .before .before .before .before .before in
     let p = c .before .before .before .before .before .program-no in
-    let w = c .before .before .put-refused .ensures in (
-      λ rest e. put-front (w .0) (omega (arith, w .1, s .pre .3)) ∙ text-refused (s .args .input .now ++ rest) (p .result) (p .ensures rest e) (c .before .before .before .before .if1 .taken),
+    let w = c .before .before .put-refused .ensures in
+    let out = s .args .out .now in (
+      λ rest e.
+          let b = s .args .input .now ++ rest in
+          let wrong = c .before .before .before .before .if1 .taken in
+          let q = put-as (w .0) (text-refused b (p .result) (p .ensures rest e) wrong) in
+          answer-refused b _ out _ _ (put-count q) (put-over q (omega (arith, w .1, s .pre .3))) (p .result) (p .ensures rest e) wrong,
       omega (arith, w .1),
     )
 
@@ -106,14 +118,21 @@ same-length-4 : tie.Need-same-length-4
 same-length-4 c = c .before .before .before .put-report .kept .1 .1 .1 .0
 
 returns-2 : tie.Need-returns-2
+unfolding printedOf
 returns-2 c =
     let s = c .before .before .before .before .before .before .before .before .before .before .before .before .before .before .before in
     let p = c .before .before .before .before .before .before .before .before .before .before .before .before .program-no in
     let d = c .before .before .before .before .before .before .before .before in
     let w = c .before .before .before .put-report .ensures in
-    let k = ap₂ report (d .before .before .settings-in .ensures) (x-is d) in (
-      λ rest e. put-front (put-as (w .0) k) (omega (arith, w .1, s .pre .3))
-          ∙ text-report (s .args .input .now) rest (s .args .more) (p .result) (whole (d .before .before .before) .0) e (p .ensures rest e) (c .before .before .before .before .before .before .before .before .before .before .before .if1 .left),
+    let b = s .args .input .now in
+    let out = s .args .out .now in
+    let settings = d .before .before .settings-in .ensures in (
+      λ rest e.
+          let g = none-after b rest (s .args .more) (whole (d .before .before .before) .0) e in
+          let z = ap program-no (sym g) ∙ sym (p .ensures rest e) ∙ c .before .before .before .before .before .before .before .before .before .before .before .if1 .left in
+          let q = put-as (w .0) (ap₂ report settings (x-is d) ∙ text-report b z) in
+          answer-taken b _ out _ _ (put-count q) (put-over q (omega (arith, w .1, s .pre .3))) z (whole-is d) (w .2 ∙ (λ i. tableOf (settings i) (s .args .table .now) (x-is d i)))
+          ∙ ap (λ (l : List ℕ). printedOf l out (s .args .samples .now) (s .args .table .now)) (sym g),
       w .1,
     )
 
