@@ -1,11 +1,12 @@
--- The program `frames`: the line that it prints for one record, as a function of the record's bytes. A record is rate, nb, complexity, a byte each; thres1, thres2, previous lag,
+-- The program `frames`: the line that it prints for one record, as a function of the record's bytes, and what its call leaves in each lent place. A record is rate, nb, complexity, a byte each; thres1, thres2, previous lag,
 -- previous correlation, four signed bytes each; then a frame's N samples, two signed bytes each; all little-endian. Definitions only.
-use mathlib.Core.Path.{_≡_}
 use mathlib.Core.Bool.{cond}
 use mathlib.Core.List.{List}
-use Prim.Native.Nat.{ℕ, _+_, _*_, _≤_}
+use Prim.Native.Nat.{ℕ, _+_, _*_}
 use lib.Dec.{ltb, eqb}
-use lib.ListN.{length, take}
+use lib.IntN.{ℤ}
+use lib.ListN.{length}
+use Rattle.lists.specs.Push.{headed}
 use Rattle.sheet_bytes.specs.Bytes.{signed-at}
 use Rattle.pitch_settings.specs.declared.Settings.{Settings}
 use Rattle.pitch_settings.specs.Settings.{settings-no, frame-length}
@@ -13,6 +14,7 @@ use Rattle.pitch_table.specs.declared.Row.{Row}
 use Rattle.pitch_input.specs.Input.{settings-in, samples-from}
 use Rattle.pitch_text.specs.Text.{row-text, refused-text}
 use Rattle.silk_pitch_analysis.specs.Frame.{row-of}
+use Rattle.frames_text.specs.declared.Line.{Line}
 
 -- the bytes of a record with these settings
 unfoldable pub record-size : Settings → ℕ
@@ -28,16 +30,33 @@ record-no b =
     cond (ltb (length b) 19) 10
     (cond (eqb (settings-no (settings-in b)) 0) (cond (ltb (length b) (record-size (settings-in b))) 10 0) (settings-no (settings-in b)))
 
+-- the record's samples
+unfoldable pub record-samples : List ℕ → List ℤ
+record-samples b = samples-from b 19 (frame-length (settings-in b))
+
 -- the row of the record's frame, with its previous lag and previous correlation
 unfoldable pub record-row : List ℕ → Row
-record-row b = row-of (settings-in b) (samples-from b 19 (frame-length (settings-in b))) (signed-at b 11) (signed-at b 15)
+record-row b = row-of (settings-in b) (record-samples b) (signed-at b 11) (signed-at b 15)
 
 -- the record's line, or the refusal
 unfoldable pub record-text : List ℕ → List ℕ
 record-text b = cond (eqb (record-no b) 0) (row-text (settings-in b .nb) (record-row b)) (refused-text (record-no b))
 
--- what is said of the record b: the refusal's number or 0, and the text in the first `len` bytes
-pub record Said (b : List ℕ) (number len : ℕ) (out : List ℕ) : Type 0 where
-  pub number-is : number ≡ record-no b
-  pub text-is : take len out ≡ record-text b
-  pub short : len ≤ 86
+-- ---- the whole outcome of a call
+
+-- the text's length with the refusal's number, and the lent lists at the end
+pub record Printed : Type 0 where
+  pub line : Line
+  pub out : List ℕ
+  pub samples : List ℤ
+
+abbrev pub printed : Line → List ℕ → List ℤ → Printed
+printed line out samples = record { line = line; out = out; samples = samples }
+
+-- the lent samples after the record b: its samples over their front; a refusal leaves them
+unfoldable pub samples-after : List ℕ → List ℤ → List ℤ
+samples-after b samples = cond (eqb (record-no b) 0) (headed (record-samples b) samples) samples
+
+-- what `frame_text` says and leaves of `out` and `samples` for the record b: the text over the front of `out`
+unfoldable pub printedOf : List ℕ → List ℕ → List ℤ → Printed
+printedOf b out samples = printed (record { len = length (record-text b); number = record-no b }) (headed (record-text b) out) (samples-after b samples)

@@ -1,20 +1,22 @@
--- Laws of a record's text: the refusal's number by cases, what a record that is not refused has, and its text.
+-- Laws of a record's text: the refusal's number by cases, what a record that is not refused has, its text, and the whole outcome.
 -- Assumes nothing.
 use mathlib.Core.Path.{_≡_, refl, sym}
 use mathlib.Core.Bool.{Bool, true, false, cond}
 use mathlib.Core.List.{List}
 use Prim.Native.Nat.{ℕ, _+_, _*_, _≤_, _<_}
 use native.Mathlib.Omega.{arith}
-use borrow.Author.Tests.{lt-ltb, le-ltb, ne-eqb, ltb-false, eqb-true, eqb-false}
+use borrow.Author.Tests.{lt-ltb, le-ltb, eq-eqb, ne-eqb, ltb-false, eqb-true, eqb-false}
 use lib.Dec.{ltb, eqb}
+use lib.IntN.{ℤ}
 use lib.ListN.{length}
+use Rattle.lists.specs.Push.{headed}
 use Rattle.pitch_settings.specs.declared.Settings.{Settings}
 use Rattle.pitch_settings.specs.Settings.{settings-no, frame-length}
 use Rattle.pitch_settings.specs.SettingsLaws.{accepted}
 use Rattle.pitch_input.specs.Input.{settings-in}
 use Rattle.pitch_input.specs.InputLaws.{settings-small}
 use Rattle.pitch_text.specs.Text.{row-text, refused-text}
-use Rattle.frames_text.specs.Frames.{record-size, record-length, record-no, record-row, record-text}
+use Rattle.frames_text.specs.Frames.{record-size, record-length, record-no, record-samples, record-row, record-text, printed, samples-after, printedOf}
 
 -- a record has at most 1,299 bytes
 pub sized : (s : Settings) (n : ℕ) → settings-no s ≡ 0 → n ≡ frame-length s → (19 + 2 * n ≡ record-size s) × (19 ≤ 19 + 2 * n) × (19 + 2 * n ≤ 1299)
@@ -91,3 +93,14 @@ text-refused b n e h = rw (← e, ne-eqb n 0 h)
 pub text-row : (b : List ℕ) → 0 ≡ record-no b → row-text (settings-in b .nb) (record-row b) ≡ record-text b
 unfolding record-text
 text-row b e = rw (← e)
+
+-- ---- the whole outcome: the text that is laid over the front of `out`
+module _ (b out : List ℕ) (x : List ℤ) {len : ℕ} {after : List ℕ} (count : len ≡ length (record-text b)) (over : after ≡ headed (record-text b) out) (n : ℕ) (e : n ≡ record-no b) where
+  -- a refusal leaves the samples
+  pub outcome-refused : (n ≡ 0 → ⊥) → printed (record { len = len; number = n }) after x ≡ printedOf b out x
+  unfolding printedOf samples-after
+  outcome-refused h = rw (← e, ne-eqb n 0 h) (λ i. printed (record { len = count i; number = n }) (over i) x)
+
+  pub outcome-row : n ≡ 0 → {y : List ℤ} → y ≡ headed (record-samples b) x → printed (record { len = len; number = n }) after y ≡ printedOf b out x
+  unfolding printedOf samples-after
+  outcome-row z p = rw (← e, eq-eqb n 0 z) (λ i. printed (record { len = count i; number = n }) (over i) (p i))

@@ -1,14 +1,16 @@
 -- The program `sheet_read`: the text that it prints, as a function of all bytes of its input. A line with rate, nb, complexity, thres1, thres2 and frame count, then the rows as
--- `track` prints them, or `refused` and the number. Definitions only.
+-- `track` prints them, or `refused` and the number; and what its call leaves in each lent place. Definitions only.
 use mathlib.Core.Bool.{cond}
 use mathlib.Core.List.{List, [], _∷_, _++_}
-use Prim.Native.Nat.{ℕ}
+use Prim.Native.Nat.{ℕ, _*_}
 use lib.IntN.{ℤ, pos}
+use lib.ListN.{length, drop}
+use Rattle.lists.specs.Push.{headed}
 use Rattle.pitch_settings.specs.declared.Settings.{Settings}
 use Rattle.pitch_table.specs.declared.Row.{Row}
 use Rattle.pitch_text.specs.Decimal.{digits}
 use Rattle.pitch_text.specs.Text.{fields, lines-text, refused-text}
-use Rattle.sheet_page.specs.Page.{settings-in, frames-in, row-in, held, well-formed}
+use Rattle.sheet_page.specs.Page.{settings-in, frames-in, row-in, held, well-formed, rows-in, numbers-of}
 
 -- the numbers of the first line after the rate
 unfoldable pub head-values : Settings → ℕ → List ℤ
@@ -25,3 +27,22 @@ report s rows frames = head-text s frames ++ lines-text (s .nb) rows frames
 -- what the program prints for the input p: the settings and rows of a sheet; 9 for everything that is no sheet
 unfoldable pub sheet-text : List ℕ → List ℕ
 sheet-text p = cond (well-formed p) (report (settings-in p) (λ i. held (row-in p i)) (frames-in p)) (refused-text 9)
+
+-- ---- the whole outcome of a call
+
+-- how many bytes were written, and the lent lists at the end
+pub record Printed : Type 0 where
+  pub len : ℕ
+  pub out : List ℕ
+  pub table : List ℤ
+
+abbrev pub printed : ℕ → List ℕ → List ℤ → Printed
+printed len out table = record { len = len; out = out; table = table }
+
+-- the lent table after the input p: the sheet's rows, and then what the table had; an input that is no sheet leaves it
+unfoldable pub table-after : List ℕ → List ℤ → List ℤ
+table-after p table = cond (well-formed p) (numbers-of (rows-in p) ++ drop (frames-in p * 8) table) table
+
+-- what `sheet_text` leaves of `out` and `table` for the input p: the text over the front of `out`
+unfoldable pub printedOf : List ℕ → List ℕ → List ℤ → Printed
+printedOf p out table = printed (length (sheet-text p)) (headed (sheet-text p) out) (table-after p table)

@@ -1,4 +1,4 @@
--- Laws of the program's text: a page that is longer than the longest sheet is none, and what a reading finds is what the text tells.
+-- Laws of the program's text: a page that is longer than the longest sheet is none, what a reading finds is what the text tells, and the whole outcome.
 -- Assumes nothing.
 use mathlib.Core.Path.{_≡_, refl, ap, _∙_}
 use mathlib.Core.Bool.{Bool, true, false}
@@ -11,6 +11,7 @@ use lib.IntN.{ℤ, pos}
 use lib.ListN.{length, getD, drop, length-append}
 use lib.Seq.{getD-append-add}
 use Rattle.lists.specs.Fill.{length-table, getD-table}
+use Rattle.lists.specs.Push.{headed}
 use Rattle.pitch_settings.specs.declared.Settings.{Settings}
 use Rattle.pitch_settings.specs.Settings.{settings-no}
 use Rattle.pitch_table.specs.declared.Row.{Row}
@@ -25,7 +26,7 @@ use Rattle.pitch_sheet.specs.declared.Got.the-variants.{Read, Refused as NotRea
 use Rattle.pitch_sheet.specs.Calls.{got, readOf, ReadOutcome}
 use Rattle.pitch_sheet.specs.CallsLaws.{sheet-page, read-malformed, read-done}
 use Rattle.pitch_sheet.specs.Holds.{no-row}
-use Rattle.sheet_text.specs.Program.{head-text, report, sheet-text}
+use Rattle.sheet_text.specs.Program.{head-text, report, sheet-text, printed, table-after, printedOf}
 
 -- ---- a page that is longer than the longest sheet
 pub sheet-within : (p : List ℕ) → well-formed p ≡ true → length p ≤ 32804
@@ -44,8 +45,17 @@ too-long p h = by (well-formed p) refl
     by false e = refl
 
 -- bytes follow those of the longest sheet
-pub text-more : (p rest : List ℕ) → 32804 ≤ length p → ltb 0 (length rest) ≡ true → refused-text 9 ≡ sheet-text (p ++ rest)
-text-more p rest h e = text-refused (p ++ rest) (too-long (p ++ rest) (omega (arith, length-append p rest, ltb-true 0 (length rest) e)))
+pub no-sheet : (p rest : List ℕ) → 32804 ≤ length p → ltb 0 (length rest) ≡ true → well-formed (p ++ rest) ≡ false
+no-sheet p rest h e = too-long (p ++ rest) (omega (arith, length-append p rest, ltb-true 0 (length rest) e))
+
+-- ---- the whole outcome: the text over the front of `out`, and the table
+pub table-kept : (p : List ℕ) (t : List ℤ) → well-formed p ≡ false → t ≡ table-after p t
+unfolding table-after
+table-kept p t e = rw e
+
+pub outcome : (p out : List ℕ) (t : List ℤ) {len : ℕ} {after : List ℕ} {u : List ℤ} → len ≡ length (sheet-text p) → after ≡ headed (sheet-text p) out → u ≡ table-after p t → printed len after u ≡ printedOf p out t
+unfolding printedOf
+outcome p out t count over left = λ i. printed (count i) (over i) (left i)
 
 -- none follow
 pub none-more : (p rest : List ℕ) → ltb 0 (length rest) ≡ false → p ++ rest ≡ p
@@ -80,17 +90,19 @@ row-back (r ∷ rs) t (suc i) h = row-later r _ i ∙ row-back rs t i (omega ari
 
 -- ---- what a reading finds, in a table that has room for every sheet
 
--- the page is a sheet, and these are its settings, its frame count and its rows, in a table
-pub record Found (p : List ℕ) (s : Settings) (frames : ℕ) (after : List ℤ) : Type 0 where
+-- the page is a sheet, and these are its settings, its frame count and its rows, in a table that was t before
+pub record Found (p : List ℕ) (t : List ℤ) (s : Settings) (frames : ℕ) (after : List ℤ) : Type 0 where
   pub sound : well-formed p ≡ true
   pub settings : s ≡ settings-in p
   pub count : frames ≡ frames-in p
   pub rows : (i : ℕ) → i < frames → row-at after i ≡ held (row-in p i)
+  pub left : after ≡ table-after p t
 
--- the page is no sheet, and the number says so
-pub record Refused (p : List ℕ) (number : ℕ) : Type 0 where
+-- the page is no sheet, and the number says so; the table is as it was
+pub record Refused (p : List ℕ) (t : List ℤ) (number : ℕ) (after : List ℤ) : Type 0 where
   pub bad : well-formed p ≡ false
   pub nine : number ≡ 9
+  pub left : after ≡ table-after p t
 
 module _ (p : List ℕ) (t : List ℤ) (room : 32768 ≤ length t) where
   -- 7 is never said
@@ -110,35 +122,40 @@ module _ (p : List ℕ) (t : List ℤ) (room : 32768 ≤ length t) where
       let f : ℕ → Row = λ k. held (row-in p k) in
       row-back (rows-in p) (drop (frames-in p * 8) t) i (omega (arith, length-table f (frames-in p))) ∙ getD-table f (frames-in p) i no-row h
 
+  table-read : well-formed p ≡ true → numbers-of (rows-in p) ++ drop (frames-in p * 8) t ≡ table-after p t
+  unfolding table-after
+  table-read e = rw e
+
   module _ {r : Got} {after : List ℤ} (e : got r after ≡ readOf p t) where
-    pub found : {s : Settings} {frames : ℕ} → r ≡ Read s frames → Found p s frames after
+    pub found : {s : Settings} {frames : ℕ} → r ≡ Read s frames → Found p t s frames after
     found {s} {frames} g = by (well-formed p) refl
       where
-        by : (b : Bool) → well-formed p ≡ b → Found p s frames after
+        by : (b : Bool) → well-formed p ≡ b → Found p t s frames after
         by true h =
             let o = e ∙ sound-read h in
             let q = ap (λ (x : ReadOutcome). x .answer) o in
             let k : frames ≡ frames-in p = cc in
-            record { sound = h; settings = cc; count = k; rows = λ i l. ap (λ (x : ReadOutcome). row-at (x .table) i) o ∙ row-read i (omega arith) }
+            record { sound = h; settings = cc; count = k; rows = λ i l. ap (λ (x : ReadOutcome). row-at (x .table) i) o ∙ row-read i (omega arith); left = ap (λ (x : ReadOutcome). x .table) o ∙ table-read h }
         by false h =
             let q = ap (λ (x : ReadOutcome). x .answer) (e ∙ bad-read h) in
             let z : _≡_ {A = ℕ} 0 1 = cc in
             absurd (omega arith)
 
-    pub refused : {number : ℕ} → r ≡ NotRead number → Refused p number
+    pub refused : {number : ℕ} → r ≡ NotRead number → Refused p t number after
     refused {number} g = by (well-formed p) refl
       where
-        by : (b : Bool) → well-formed p ≡ b → Refused p number
+        by : (b : Bool) → well-formed p ≡ b → Refused p t number after
         by true h =
             let q = ap (λ (x : ReadOutcome). x .answer) (e ∙ sound-read h) in
             let z : _≡_ {A = ℕ} 0 1 = cc in
             absurd (omega arith)
         by false h =
-            let q = ap (λ (x : ReadOutcome). x .answer) (e ∙ bad-read h) in
-            record { bad = h; nine = cc }
+            let o = e ∙ bad-read h in
+            let q = ap (λ (x : ReadOutcome). x .answer) o in
+            record { bad = h; nine = cc; left = ap (λ (x : ReadOutcome). x .table) o ∙ table-kept p t h }
 
 -- ---- the text of what was read
-module _ {p : List ℕ} {s : Settings} {frames : ℕ} {after : List ℤ} (f : Found p s frames after) where
+module _ {p : List ℕ} {t : List ℤ} {s : Settings} {frames : ℕ} {after : List ℤ} (f : Found p t s frames after) where
   pub settings-known : settings-no s ≡ 0
   settings-known = ap settings-no (f .settings) ∙ good p (f .sound) .head .settings
 

@@ -4,11 +4,11 @@ ghost use mathlib.Core.Bool.{true};
 ghost use mathlib.Core.List.{List, _++_};
 ghost use Prim.Native.Nat.{ℕ, _*_, _≤_};
 ghost use lib.Dec.{ltb};
-ghost use lib.ListN.{length, take};
+ghost use lib.ListN.{length};
 ghost use Rattle.pitch_settings.specs.Settings.{settings-no};
 ghost use Rattle.pitch_table.specs.Row.{row-at};
 ghost use Rattle.pitch_text.specs.Text.{Put};
-ghost use Rattle.sheet_text.specs.Program.{head-values, head-text, report, sheet-text};
+ghost use Rattle.sheet_text.specs.Program.{head-values, head-text, report, printed, printedOf};
 use pitch_settings::Settings;
 use pitch_sheet::Got;
 use pitch_sheet::read_sheet;
@@ -55,10 +55,10 @@ fn put_report(out: &mut [u8], s: Settings, table: &[i32], frames: usize) -> usiz
 }
 
 // The text for an input that begins with these bytes, in the first bytes of `out`; how many they are. `more` says whether bytes follow: then these are as many as the longest
-// sheet has. What the call leaves in the other bytes of `out` and in `table` is free.
+// sheet has. The sheet's rows are left in the first rows of `table`, by a refusal nothing; all else stays.
 pub fn sheet_text(input: &[u8], more: bool, table: &mut [i32], out: &mut [u8]) -> usize
     requires { ⌜ (more ≡ true → 32804 ≤ length (now input)) × (32768 ≤ length (now table)) × (397383 ≤ length (now out)) ⌝ }
-    ensures { λ r. ⌜ ((rest : List ℕ) → ltb 0 (length rest) ≡ more → take r (now (out .exit)) ≡ sheet-text (now (input .entry) ++ rest)) ⌝ }
+    ensures { λ r. ⌜ ((rest : List ℕ) → ltb 0 (length rest) ≡ more → printed r (now (out .exit)) (now (table .exit)) ≡ printedOf (now (input .entry) ++ rest) (now (out .entry)) (now (table .entry))) ⌝ }
     ensures { λ r. ⌜ r ≤ 397383 ⌝ }
 {
     if more {

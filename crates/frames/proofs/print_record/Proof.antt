@@ -31,7 +31,7 @@ module _ (c : tie.After-bytes2) where
       omega (arith, c .before .read-full2 .ensures .0, c .before .read-full2 .kept .1 .0, c .before .before .read-full-arg2 .given .1, r .1, r .2, head (c .before .before .before .before .before .before .before .before))
 
 written : (c : tie.After-frame-text) → c .frame-text .result .len ≤ length (c .frame-text .last .1 .1 .0)
-written c = omega (arith, c .frame-text .ensures .short, c .frame-text .kept .1 .1 .0, c .before .before .before .before .before .before .before .before .before .before .before .before .before .before .before .before .before .pre .2)
+written c = omega (arith, c .frame-text .ensures .1, c .frame-text .kept .1 .1 .0, c .before .before .before .before .before .before .before .before .before .before .before .before .before .before .before .before .before .pre .2)
 
 slice-relend-prefix-read-full : tie.Need-slice-relend-prefix-read-full
 slice-relend-prefix-read-full c = search needs

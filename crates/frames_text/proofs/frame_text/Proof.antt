@@ -2,12 +2,13 @@
 use borrow.Author.Needs.{needs}
 use mathlib.Core.Path.{_≡_, sym, ap, ap₂, _∙_}
 use mathlib.Core.List.{_++_}
-use Prim.Native.Nat.{_+_, _*_, _≤_}
+use Prim.Native.Nat.{ℕ, _+_, _*_, _≤_}
 use native.Mathlib.Omega.{arith}
 use lib.ListN.{length, take, drop, length-append, length-drop}
 use lib.Seq.{length-take-le}
 use mir.Syntax.{w32}
 use Rattle.zint.specs.Read.{r-got}
+use Rattle.lists.specs.Push.{headed}
 use Rattle.pitch_settings.specs.declared.Settings.{Settings}
 use Rattle.pitch_settings.specs.Settings.{settings-no, frame-length}
 use Rattle.pitch_settings.specs.SettingsLaws.{accepted}
@@ -16,11 +17,11 @@ use Rattle.silk_pitch_analysis.specs.declared.RowAnswer.the-variants.{Analysed}
 use Rattle.silk_pitch_analysis.specs.Frame.{row-answer}
 use Rattle.silk_pitch_analysis.specs.FrameLaws.{row-whole, one-row, no-refusal}
 use Rattle.pitch_input.specs.Input.{settings-in, samples-from}
-use Rattle.pitch_input.specs.InputLaws.{loaded, length-samples}
+use Rattle.pitch_input.specs.InputLaws.{loaded, loaded-over, length-samples}
 use Rattle.pitch_text.specs.Text.{row-text}
-use Rattle.pitch_text.specs.TextLaws.{put-front, put-as}
-use Rattle.frames_text.specs.Frames.{record-size, record-row}
-use Rattle.frames_text.specs.FramesLaws.{Whole, whole, no-small, text-refused, text-row}
+use Rattle.pitch_text.specs.TextLaws.{put-as, put-count, put-over}
+use Rattle.frames_text.specs.Frames.{record-size, record-samples, record-row}
+use Rattle.frames_text.specs.FramesLaws.{Whole, whole, no-small, text-refused, text-row, outcome-refused, outcome-row}
 use Rattle.frames_text.proofs.frame_text.Statement.{statement}
 use Rattle.frames_text.proofs.frame_text.Tie as tie
 
@@ -50,6 +51,12 @@ module _ (c : tie.After-load-samples) where
   x-is : take (c .before .before .frame-length .result) (c .load-samples .last .1 .1 .0 ++ drop (c .before .before .frame-length .result) (c .before .before .before .before .before .before .before .before .args .samples .now)) ≡ samples-from (c .before .before .before .before .before .before .before .before .args .bytes .now) 19 (c .before .before .frame-length .result)
   x-is = loaded (c .before .before .before .before .before .before .before .before .args .bytes .now) 19 (c .before .before .frame-length .result) (c .before .before .before .before .before .before .before .before .args .samples .now) (c .load-samples .last .1 .1 .0) (room (c .before .before)) (c .load-samples .ensures)
 
+  whole-is : c .load-samples .last .1 .1 .0 ++ drop (c .before .before .frame-length .result) (c .before .before .before .before .before .before .before .before .args .samples .now) ≡ headed (record-samples (c .before .before .before .before .before .before .before .before .args .bytes .now)) (c .before .before .before .before .before .before .before .before .args .samples .now)
+  unfolding record-samples
+  whole-is =
+      loaded-over (c .before .before .before .before .before .before .before .before .args .bytes .now) 19 (c .before .before .frame-length .result) (c .before .before .before .before .before .before .before .before .args .samples .now) (c .load-samples .last .1 .1 .0) (room (c .before .before)) (c .load-samples .ensures)
+      ∙ ap (λ (n : ℕ). headed (samples-from (c .before .before .before .before .before .before .before .before .args .bytes .now) 19 n) (c .before .before .before .before .before .before .before .before .args .samples .now)) (size (c .before .before))
+
 record-no-requires : tie.Need-record-no-requires
 record-no-requires c κs = tt
 
@@ -67,11 +74,9 @@ returns c =
     let s = c .before .before .before .before .before .before .before .before in
     let k = c .before .before .before .before .before .record-no in
     let w = c .before .before .put-refused .ensures in
-    record {
-      number-is = k .ensures;
-      text-is = put-front (w .0) (omega (arith, w .1, s .pre .1)) ∙ text-refused (s .args .bytes .now) (k .result) (k .ensures) (c .before .before .before .before .if1 .taken);
-      short = omega (arith, w .1);
-    }
+    let wrong = c .before .before .before .before .if1 .taken in
+    let q = put-as (w .0) (text-refused (s .args .bytes .now) (k .result) (k .ensures) wrong) in
+    (outcome-refused (s .args .bytes .now) (s .args .out .now) _ (put-count q) (put-over q (omega (arith, w .1, s .pre .1))) (k .result) (k .ensures) wrong, omega (arith, w .1))
 
 settings-in-requires : tie.Need-settings-in-requires
 settings-in-requires c κs = omega (arith, all c .enough)
@@ -112,7 +117,7 @@ module _ (c : tie.After-frame-row) where
   start = sized .before .before .before .before .before .before .before .before
 
   said : c .frame-row .result ≡ Analysed (record-row (start .args .bytes .now))
-  unfolding record-row
+  unfolding record-row record-samples
   said =
       let lag = r-got w32 (c .before .before .before .i32-at .ok) (c .before .before .before .i32-at .ensures) .val in
       let correlation = r-got w32 (c .before .before .i32-at2 .ok) (c .before .before .i32-at2 .ensures) .val in
@@ -160,11 +165,8 @@ returns-3 c =
     let w = c .before .before .put-row-text .ensures in
     let e = sym (d .before .before .before .before .if1 .left) ∙ k .ensures in
     let row : c .before .before .before .before .before .answer .given .0 .0 ≡ record-row (s .args .bytes .now) = one-row _ _ _ (c .before .before .before .before .before .answer .given .1) (said f) in
-    record {
-      number-is = k .ensures;
-      text-is = put-front (put-as (w .0) (ap₂ (λ (v : Settings) (q : Row). row-text (v .nb) q) (d .before .before .before .settings-in .ensures) row)) (omega (arith, w .1, s .pre .1)) ∙ text-row (s .args .bytes .now) e;
-      short = w .1;
-    }
+    let q = put-as (put-as (w .0) (ap₂ (λ (v : Settings) (q : Row). row-text (v .nb) q) (d .before .before .before .settings-in .ensures) row)) (text-row (s .args .bytes .now) e) in
+    (outcome-row (s .args .bytes .now) (s .args .out .now) _ (put-count q) (put-over q (omega (arith, w .1, s .pre .1))) (k .result) (k .ensures) (d .before .before .before .before .if1 .left) (whole-is d), w .1)
 
 pub frame-text-spec : {M : Type 1} → statement M
 frame-text-spec =
