@@ -1,14 +1,15 @@
 // What a program that replays a list of cases stands on: little-endian numbers of a byte slice, comparison with them, and the lines that tell how many agree. A byte past the
-// end reads as 0, and so no place is out of range. Only `count` and `report` have a `requires`: each kind has its place in both lists of counts.
+// end reads as 0, and so no place is out of range. Only `count`, `tally_of` and `report` have a `requires`: each kind has its place in both lists of counts.
 ghost use mathlib.Core.Path.{_≡_};
-ghost use Prim.Native.Nat.{ℕ, _+_, _*_, _<_, min};
+ghost use Prim.Native.Nat.{ℕ, _+_, _*_, _%_, _^_, _<_, min};
+ghost use mathlib.Core.Bool.{true};
 ghost use lib.ListN.{length, getD};
 ghost use Rattle.lists.specs.Fill.{filled};
 ghost use Rattle.cases_io.specs.Little.{u16-at, u32-at, u64-at, i16-at, i32-at, agree};
+ghost use Rattle.cases_io.specs.Counts.{same-settings, counted, tally-after, counted-at, sum, totals-of};
 use libc::STDOUT_FILENO;
 use pitch_settings::Settings;
 use std::num::wrapping_add_u64;
-use zint::abs_u32;
 use zint::as_i16;
 use zint::low32;
 
@@ -150,7 +151,9 @@ pub fn settings_at(bytes: &[u8], at: usize) -> Settings
     }
 }
 
-pub fn same_settings(a: Settings, b: Settings) -> bool {
+pub fn same_settings(a: Settings, b: Settings) -> bool
+    ensures { λ r. ⌜ r ≡ same-settings a b ⌝ }
+{
     a.rate == b.rate
         && a.nb == b.nb
         && a.complexity == b.complexity
@@ -158,8 +161,17 @@ pub fn same_settings(a: Settings, b: Settings) -> bool {
         && a.thres2 == b.thres2
 }
 
+// A count after one case more, which counts or does not.
+fn counted(n: u64, counts: bool) -> u64
+    ensures { λ r. ⌜ r ≡ counted counts n ⌝ }
+{
+    if counts { wrapping_add_u64(n, 1) } else { n }
+}
+
 impl Tally {
-    pub fn none() -> Tally {
+    pub fn none() -> Tally
+        ensures { λ r. ⌜ (r .agreed ≡ 0) × (r .total ≡ 0) ⌝ }
+    {
         Tally {
             agreed: 0,
             total: 0,
@@ -167,22 +179,16 @@ impl Tally {
     }
 
     // One case more.
-    pub fn counted(self, agrees: bool) -> Tally {
-        let total = wrapping_add_u64(self.total, 1);
-        if agrees {
-            Tally {
-                agreed: wrapping_add_u64(self.agreed, 1),
-                total: total,
-            }
-        } else {
-            Tally {
-                agreed: self.agreed,
-                total: total,
-            }
+    pub fn counted(self, agrees: bool) -> Tally
+        ensures { λ r. ⌜ r ≡ tally-after self agrees ⌝ }
+    {
+        Tally {
+            agreed: counted(self.agreed, agrees),
+            total: counted(self.total, true),
         }
     }
 
-    // The line `name agreed of total`.
+    // The line `name agreed of total`. What is written no contract can say.
     pub fn print(self, name: &[u8]) {
         io::write_all(STDOUT_FILENO, name);
         io::write_all(STDOUT_FILENO, b" ");
@@ -193,13 +199,44 @@ impl Tally {
     }
 }
 
-// One record more of this kind.
+// One record more of this kind: its places change, all others stay.
 pub fn count(agreed: &mut [u64], total: &mut [u64], kind: usize, agrees: bool)
     requires { ⌜ (kind < length (now agreed)) × (kind < length (now total)) ⌝ }
+    ensures { λ r. ⌜ (now (agreed .exit) ≡ counted-at (now (agreed .entry)) kind agrees) × (now (total .exit) ≡ counted-at (now (total .entry)) kind true) ⌝ }
 {
-    total[kind] = wrapping_add_u64(total[kind], 1);
-    if agrees {
-        agreed[kind] = wrapping_add_u64(agreed[kind], 1);
+    agreed[kind] = counted(agreed[kind], agrees);
+    total[kind] = counted(total[kind], true);
+}
+
+// The sum of the counts, modulo 2 to the 64.
+fn sum_of(xs: &[u64]) -> u64
+    ensures { λ r. ⌜ r ≡ sum (now (xs .entry)) (length (now (xs .entry))) % 2 ^ 64 ⌝ }
+{
+    let mut s = 0;
+    for i in 0..xs.len() {
+        s = wrapping_add_u64(s, xs[i]);
+    }
+    s
+}
+
+// What the line `all:` tells.
+pub fn totals(agreed: &[u64], total: &[u64]) -> Tally
+    ensures { λ r. ⌜ r ≡ totals-of (now (agreed .entry)) (now (total .entry)) ⌝ }
+{
+    Tally {
+        agreed: sum_of(agreed),
+        total: sum_of(total),
+    }
+}
+
+// What the line of a kind tells.
+pub fn tally_of(agreed: &[u64], total: &[u64], kind: usize) -> Tally
+    requires { ⌜ (kind < length (now agreed)) × (kind < length (now total)) ⌝ }
+    ensures { λ r. ⌜ (r .agreed ≡ getD (now (agreed .entry)) kind 0) × (r .total ≡ getD (now (total .entry)) kind 0) ⌝ }
+{
+    Tally {
+        agreed: agreed[kind],
+        total: total[kind],
     }
 }
 
@@ -207,28 +244,10 @@ pub fn count(agreed: &mut [u64], total: &mut [u64], kind: usize, agrees: bool)
 pub fn report(agreed: &[u64], total: &[u64])
     requires { ⌜ length (now agreed) ≡ length (now total) ⌝ }
 {
-    let mut all_agreed = 0;
-    let mut all = 0;
     for kind in 0..total.len() {
         io::write_all(STDOUT_FILENO, b"kind ");
         io::print_decimal(STDOUT_FILENO, kind as u64);
-        Tally {
-            agreed: agreed[kind],
-            total: total[kind],
-        }.print(b":");
-        all_agreed = wrapping_add_u64(all_agreed, agreed[kind]);
-        all = wrapping_add_u64(all, total[kind]);
+        tally_of(agreed, total, kind).print(b":");
     }
-    Tally {
-        agreed: all_agreed,
-        total: all,
-    }.print(b"all:");
-}
-
-// A number in decimal, with its sign where it is negative.
-pub fn print_i32(x: i32) {
-    if x < 0 {
-        io::write_all(STDOUT_FILENO, b"-");
-    }
-    io::print_decimal(STDOUT_FILENO, abs_u32(x) as u64);
+    totals(agreed, total).print(b"all:");
 }

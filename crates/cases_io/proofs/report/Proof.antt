@@ -1,15 +1,15 @@
 -- `cases_io::report` meets its contract. The invariant: the kind is within the counts. Assumes nothing.
 use Prim.Native.Nat.{_≤_, _-_}
-use lib.ListN.{length}
 use borrow.Author.Needs.{needs}
+use lib.ListN.{length}
 use Rattle.cases_io.proofs.report.Statement.{statement}
 use Rattle.cases_io.proofs.report.Tie as tie
 
 abbrev Inv-loop : tie.InvT-loop
-Inv-loop agreed total all-agreed₀ all₀ kind₀ t6 t7 t8 kind-end all-agreed all kind = kind ≤ length total
+Inv-loop agreed total kind₀ t4 t5 t6 kind-end kind = kind ≤ length total
 
 abbrev μ-loop : tie.MeasureT-loop
-μ-loop agreed total all-agreed₀ all₀ kind₀ t6 t7 t8 kind-end all-agreed all kind = length total - kind
+μ-loop agreed total kind₀ t4 t5 t6 kind-end kind = length total - kind
 
 loop-holds : tie.Need-loop-holds Inv-loop μ-loop
 loop-holds c = search needs
@@ -23,44 +23,14 @@ write-all-requires c κs = search needs
 print-decimal-requires : tie.Need-print-decimal-requires Inv-loop μ-loop
 print-decimal-requires c κs = search needs
 
-mul-wrapping-add-u64 : tie.Need-mul-wrapping-add-u64 Inv-loop μ-loop
-mul-wrapping-add-u64 c = search needs
-
-shared-slice-read-wrapping-add-u64 : tie.Need-shared-slice-read-wrapping-add-u64 Inv-loop μ-loop
-shared-slice-read-wrapping-add-u64 c = search needs
-
-mul-wrapping-add-u64-2 : tie.Need-mul-wrapping-add-u64-2 Inv-loop μ-loop
-mul-wrapping-add-u64-2 c = search needs
-
-shared-slice-read-wrapping-add-u64-2 :
-    tie.Need-shared-slice-read-wrapping-add-u64-2 Inv-loop μ-loop
-shared-slice-read-wrapping-add-u64-2 c = search needs
+tally-of-requires : tie.Need-tally-of-requires Inv-loop μ-loop
+tally-of-requires c κs = search needs
 
 slice-aggregate-print : tie.Need-slice-aggregate-print Inv-loop μ-loop
 slice-aggregate-print c = search needs
 
 print-requires : tie.Need-print-requires Inv-loop μ-loop
 print-requires c κs = search needs
-
-mul-wrapping-add-u64-3 : tie.Need-mul-wrapping-add-u64-3 Inv-loop μ-loop
-mul-wrapping-add-u64-3 c = search needs
-
-shared-slice-read-wrapping-add-u64-3 :
-    tie.Need-shared-slice-read-wrapping-add-u64-3 Inv-loop μ-loop
-shared-slice-read-wrapping-add-u64-3 c = search needs
-
-wrapping-add-u64-requires : tie.Need-wrapping-add-u64-requires Inv-loop μ-loop
-wrapping-add-u64-requires c κs = search needs
-
-mul-wrapping-add-u64-4 : tie.Need-mul-wrapping-add-u64-4 Inv-loop μ-loop
-mul-wrapping-add-u64-4 c = search needs
-
-shared-slice-read-wrapping-add-u64-4 :
-    tie.Need-shared-slice-read-wrapping-add-u64-4 Inv-loop μ-loop
-shared-slice-read-wrapping-add-u64-4 c = search needs
-
-wrapping-add-u64-requires-2 : tie.Need-wrapping-add-u64-requires-2 Inv-loop μ-loop
-wrapping-add-u64-requires-2 c κs = search needs
 
 add-kind : tie.Need-add-kind Inv-loop μ-loop
 add-kind c = search needs
@@ -70,6 +40,9 @@ loop-less c = search needs
 
 loop-again : tie.Need-loop-again Inv-loop μ-loop
 loop-again c = search needs
+
+totals-requires : tie.Need-totals-requires Inv-loop μ-loop
+totals-requires c κs = search needs
 
 slice-aggregate-print-2 : tie.Need-slice-aggregate-print-2 Inv-loop μ-loop
 slice-aggregate-print-2 c = search needs
@@ -90,21 +63,13 @@ report-spec =
     slice-aggregate-write-all
     write-all-requires
     print-decimal-requires
-    mul-wrapping-add-u64
-    shared-slice-read-wrapping-add-u64
-    mul-wrapping-add-u64-2
-    shared-slice-read-wrapping-add-u64-2
+    tally-of-requires
     slice-aggregate-print
     print-requires
-    mul-wrapping-add-u64-3
-    shared-slice-read-wrapping-add-u64-3
-    wrapping-add-u64-requires
-    mul-wrapping-add-u64-4
-    shared-slice-read-wrapping-add-u64-4
-    wrapping-add-u64-requires-2
     add-kind
     loop-less
     loop-again
+    totals-requires
     slice-aggregate-print-2
     print-requires-2
     returns)
