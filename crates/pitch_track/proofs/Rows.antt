@@ -5,13 +5,14 @@ use mathlib.Core.List.{List, [], _∷_, _++_, append-assoc, append-nil}
 use mathlib.Core.Logic.{⊎-elim}
 use native.Mathlib.Omega.{arith}
 use native.Mathlib.Nat.{add-zero, suc-mul, add-suc, add-mul}
-use lib.IntN.{ℤ}
-use lib.ListN.{length, take, drop, length-append, length-drop, take-append-drop}
-use lib.Seq.{length-take-le, sets, drop-drop, drop-append-le, take-append-le, drop-at, take-at}
+use lib.IntN.{ℤ, pos}
+use lib.ListN.{length, getD, take, drop, length-append, length-drop, take-append-drop}
+use lib.Seq.{length-take-le, getD-take, getD-drop, sets, drop-drop, drop-append-le, take-append-le, drop-at, take-at}
 use Rattle.pitch_settings.specs.declared.Settings.{Settings}
 use Rattle.pitch_track.specs.declared.Prev.{Prev}
 use Rattle.pitch_settings.specs.Settings.{frame-length, hop-length}
-use Rattle.pitch_table.specs.Row.{numbers}
+use Rattle.pitch_table.specs.declared.Row.{Row}
+use Rattle.pitch_table.specs.Row.{numbers, row-at}
 use Rattle.pitch_track.specs.Paper.{rowOf, after, windowOf, before, rowAt, rowsOf}
 use Rattle.pitch_track.proofs.Frames.{lt-or-le}
 use Rattle.pitch_track.proofs.Lists.{put-at}
@@ -113,3 +114,15 @@ row-in s x p (suc k) i l h =
     rw (e, drop-at (rowsOf s x p k) (numbers (rowAt s x p k) ++ l) (k * 8) (length-rows s x p k))
     (take-at (numbers (rowAt s x p k)) l 8 refl))
     (lt-or-le i k))
+
+-- row i of a table, by its eight numbers
+pub row-read : (t : List ℤ) (i : ℕ) (r : Row) → take 8 (drop (i * 8) t) ≡ numbers r → row-at t i ≡ r
+unfolding row-at
+row-read t i r e =
+    rw (first, part 1 (omega arith), part 2 (omega arith), part 3 (omega arith), part 4 (omega arith), part 5 (omega arith), part 6 (omega arith), part 7 (omega arith))
+  where
+    part : (j : ℕ) → j < 8 → getD t (i * 8 + j) (pos 0) ≡ getD (numbers r) j (pos 0)
+    part j h = sym (getD-drop (i * 8) t j (pos 0)) ∙ sym (getD-take 8 (drop (i * 8) t) j (pos 0) h) ∙ ap (λ (l : List ℤ). getD l j (pos 0)) e
+
+    first : getD t (i * 8) (pos 0) ≡ r .verdict
+    first = ap (λ (k : ℕ). getD t k (pos 0)) (sym (add-zero (i * 8))) ∙ part 0 (omega arith)

@@ -18,8 +18,8 @@ use Rattle.pitch_settings.specs.Settings.{settings-no}
 use Rattle.pitch_text.specs.Text.{refused-text}
 use Rattle.pitch_track.specs.Paper.{F, paperNo, joinedBy, joined, nothing, rowAt, tableOf}
 use Rattle.pitch_track.specs.Step.{startOf, deliverOf, Outcome}
-use Rattle.pitch_track.specs.Chain.{Left, chainOf, finalJ}
-use Rattle.pitch_track.proofs.OnPaper.{equation}
+use Rattle.track_run.specs.Chain.{Left, chainOf, finalJ}
+use Rattle.track_run.proofs.OnPaper.{equation}
 use Rattle.sheet_sections.specs.declared.Section.the-variants.{Pairs}
 use Rattle.sheet_sections.specs.Sheet.{sheet-length}
 use Rattle.sheet_sections.specs.SheetLaws.{length-sheet, entries-le}

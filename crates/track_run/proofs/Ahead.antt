@@ -19,6 +19,7 @@ use Rattle.pitch_track.specs.Paper.{framesDone}
 use Rattle.pitch_track.specs.Step.{Outcome, outcome, startOf, deliverOf, numberOf}
 use Rattle.track_run.specs.Chain.{Left, then, chainOf, runOf, finalJ, numbersOf, kept, partsOf, Ended, deliveriesOf, runOutcome, ranOf, EndsOnPaper}
 use Rattle.pitch_track.proofs.Frames.{lt-or-le}
+use Rattle.pitch_track.proofs.Rows.{row-read}
 use Rattle.track_run.proofs.Words.{rows-say}
 use Rattle.track_run.proofs.OnPaper.{on-paper, equation, same-rows}
 
@@ -118,7 +119,7 @@ ended s ok t ds said tr table e n h =
       held-are = ap (λ (x : Track). take (x .count) (x .held)) e ∙ q .held;
       rows-are = λ k g. ap (λ (l : List ℤ). take 8 (drop (k * 8) l)) h ∙ q .rows k g;
       others-are = ap (drop (framesDone s (finalJ s t ds) * 8)) h ∙ q .others;
-      rows-say = rows-say s (finalJ s t ds) ok;
+      rows-say = λ k g. rw (row-read table k _ (ap (λ (l : List ℤ). take 8 (drop (k * 8) l)) h ∙ q .rows k g)) (rows-say s (finalJ s t ds) ok k g);
       state-is = e ∙ ap (λ (l : Left). l .track) (equation s ok t ds);
       table-is = h ∙ ap (λ (l : Left). l .table) (equation s ok t ds);
       cuts-free = λ u es a. rw (e, h) (same-rows s ok t u ds es (ap (λ (k : List ℕ). kept k ds) (sym n) ∙ a));

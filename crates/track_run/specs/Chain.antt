@@ -11,7 +11,7 @@ use Rattle.pitch_settings.specs.Settings.{settings-no}
 use Rattle.pitch_track.specs.declared.Track.{Track}
 use Rattle.track_run.specs.declared.Ran.{Ran}
 use Rattle.pitch_track.specs.declared.Answer.{Answer}
-use Rattle.pitch_table.specs.Row.{numbers}
+use Rattle.pitch_table.specs.Row.{numbers, row-at}
 use Rattle.pitch_track.specs.Paper.{before, nothing, windowOf, rowAt, rowsOf, joined, answers, framesDone, samplesHeld, tableOf}
 use Rattle.track_run.specs.Words.{RowSays}
 use Rattle.pitch_track.specs.Step.{Outcome, padded, startOf, deliverOf, numberOf}
@@ -109,7 +109,7 @@ pub record Ended (s : Settings) (t : List ℤ) (ds : List (List ℤ)) (said : Li
   pub rows-are : (i : ℕ) → i < framesDone s (finalJ s t ds) → take 8 (drop (i * 8) table) ≡ numbers (rowAt s (finalJ s t ds) nothing i)
   pub others-are : drop (framesDone s (finalJ s t ds) * 8) table ≡ drop (framesDone s (finalJ s t ds) * 8) t
   pub rows-say : (i : ℕ) → i < framesDone s (finalJ s t ds)
-      → RowSays s (windowOf s (finalJ s t ds) i) (before s (finalJ s t ds) nothing i .lag) (before s (finalJ s t ds) nothing i .correlation) (rowAt s (finalJ s t ds) nothing i)
+      → RowSays s (windowOf s (finalJ s t ds) i) (before s (finalJ s t ds) nothing i .lag) (before s (finalJ s t ds) nothing i .correlation) (row-at table i)
   pub state-is : track ≡ stateOf s (finalJ s t ds)
   pub table-is : table ≡ tableOf s t (finalJ s t ds)
   pub cuts-free : (u : List ℤ) (es : List (List ℤ)) → kept said ds ≡ acceptedIn s u es → EndsAs track table (runOf s u es)

@@ -5,24 +5,23 @@ use mathlib.Core.Bool.{Bool, true, false, cond}
 use mathlib.Core.List.{List, [], _∷_, _++_}
 use mathlib.Core.Logic.{⊎-elim}
 use Prim.Native.Nat.{ℕ, zero, suc, _+_, _*_, _/_, _≤_, _<_}
-use native.Mathlib.Nat.{add-zero}
 use native.Mathlib.Omega.{arith}
 use borrow.Author.Tests.{ltb-false}
 use lib.Dec.{ltb, eqb}
-use lib.IntN.{ℤ, pos}
+use lib.IntN.{ℤ}
 use lib.ListN.{length, getD, take, drop, length-append, length-drop}
-use lib.Seq.{length-take-le, getD-take, getD-drop, take-at}
+use lib.Seq.{length-take-le, take-at}
 use mir.Syntax.{w32}
 use mir.Val.{SFits}
 use Rattle.lists.specs.Fill.{table, length-table, getD-table, table-ext}
 use Rattle.pitch_settings.specs.declared.Settings.{Settings}
 use Rattle.pitch_settings.specs.Settings.{settings-no, frame-length, hop-length}
 use Rattle.pitch_settings.specs.SettingsLaws.{accepted}
-use Rattle.pitch_table.specs.declared.Row.{Row}
 use Rattle.pitch_table.specs.Row.{numbers, row-at}
 use Rattle.pitch_track.specs.Paper.{F, nothing, windowOf, before, rowAt, rowsOf, paperNo, joinedBy, joined, framesDone}
 use Rattle.track_run.specs.Chain.{runOf, finalJ}
 use Rattle.pitch_track.proofs.Frames.{lt-or-le, short, fits}
+use Rattle.pitch_track.proofs.Rows.{row-read}
 use Rattle.track_run.proofs.OnPaper.{Reached, on-paper}
 use Rattle.sheet_rows.specs.Rows.{row-holds}
 use Rattle.sheet_sections.specs.Sheet.{sheet, sheet-length, rows-of}
@@ -36,18 +35,6 @@ use Rattle.pitch_sheet.specs.Holds.{no-row, Holds}
 use Rattle.pitch_sheet.specs.RoundTripLaws.{round-trip}
 use Rattle.track_sheet.specs.Accepted.{paper-rows, paper-sheet, left-no, WrittenOn, AcceptedByWrite}
 use Rattle.track_sheet.specs.RowLaws.{frame-holds, frame-correlation}
-
--- row i of a table, by its eight numbers
-row-read : (t : List ℤ) (i : ℕ) (r : Row) → take 8 (drop (i * 8) t) ≡ numbers r → row-at t i ≡ r
-unfolding row-at
-row-read t i r e =
-    rw (first, part 1 (omega arith), part 2 (omega arith), part 3 (omega arith), part 4 (omega arith), part 5 (omega arith), part 6 (omega arith), part 7 (omega arith))
-  where
-    part : (j : ℕ) → j < 8 → getD t (i * 8 + j) (pos 0) ≡ getD (numbers r) j (pos 0)
-    part j h = sym (getD-drop (i * 8) t j (pos 0)) ∙ sym (getD-take 8 (drop (i * 8) t) j (pos 0) h) ∙ ap (λ (l : List ℤ). getD l j (pos 0)) e
-
-    first : getD t (i * 8) (pos 0) ≡ r .verdict
-    first = ap (λ (k : ℕ). getD t k (pos 0)) (sym (add-zero (i * 8))) ∙ part 0 (omega arith)
 
 -- ---- the frames of the accepted samples are within the limit and the table
 

@@ -5,25 +5,23 @@ use mathlib.Core.Bool.{Bool, true, false, _||_, cond}
 use mathlib.Core.List.{List, [], _∷_, _++_, append-nil}
 use mathlib.Core.Logic.{_⊎_, ⊎-elim}
 use Prim.Native.Nat.{ℕ, _+_, _-_, _*_, _/_, _%_, _≤_, _<_}
-use native.Mathlib.Nat.{add-zero, zero-add}
+use native.Mathlib.Nat.{zero-add}
 use native.Mathlib.Omega.{arith}
 use borrow.Author.Tests.{lt-ltb, le-ltb, le-leb, lt-leb, eq-eqb, ne-eqb, ltb-false, eqb-true, eqb-false}
 use lib.Dec.{ltb, leb, eqb}
-use lib.IntN.{ℤ, pos}
-use lib.ListN.{length, getD, take, drop, replicate, length-append, length-replicate}
-use lib.Seq.{getD-take, getD-drop}
+use lib.IntN.{ℤ}
+use lib.ListN.{length, drop, replicate, length-append, length-replicate}
 use Rattle.lists.specs.Push.{headed}
 use Rattle.pitch_input.specs.Input.{settings-in}
 use Rattle.pitch_input.specs.InputLaws.{settings-front, settings-small, length-samples}
 use Rattle.pitch_settings.specs.declared.Settings.{Settings}
 use Rattle.pitch_settings.specs.Settings.{settings-no, frame-length, hop-length}
 use Rattle.pitch_settings.specs.SettingsLaws.{accepted}
-use Rattle.pitch_table.specs.declared.Row.{Row}
-use Rattle.pitch_table.specs.Row.{numbers, row-at}
+use Rattle.pitch_table.specs.Row.{row-at}
 use Rattle.pitch_track.specs.Paper.{F, nothing, rowAt, rowsOf, tableOf}
 use Rattle.pitch_track.specs.Step.{startOf, freshOf, refusalOf, noOf, pendingOf, acceptedOf, deliverOf, Outcome}
 use Rattle.pitch_track.proofs.Frames.{lt-or-le, fits, many}
-use Rattle.pitch_track.proofs.Rows.{row-in}
+use Rattle.pitch_track.proofs.Rows.{row-in, row-read}
 use Rattle.pitch_track.proofs.Deliver.{accepts}
 use Rattle.pitch_text.specs.Text.{refused-text}
 use Rattle.track_text.specs.Program.{Tracked, samples-in, half-input, first-no, program-no, samples-left, report, track-text, printed, samples-after, table-after, answered}
@@ -218,18 +216,6 @@ module _ (b text out : List ℕ) (x t : List ℤ) {len : ℕ} {after : List ℕ}
 
 -- ---- the rows of a fresh track
 
--- row i of a table, by its eight numbers
-row-from : (t : List ℤ) (i : ℕ) (r : Row) → take 8 (drop (i * 8) t) ≡ numbers r → row-at t i ≡ r
-unfolding row-at
-row-from t i r e =
-    rw (first, part 1 (omega arith), part 2 (omega arith), part 3 (omega arith), part 4 (omega arith), part 5 (omega arith), part 6 (omega arith), part 7 (omega arith))
-  where
-    part : (j : ℕ) → j < 8 → getD t (i * 8 + j) (pos 0) ≡ getD (numbers r) j (pos 0)
-    part j h = sym (getD-drop (i * 8) t j (pos 0)) ∙ sym (getD-take 8 (drop (i * 8) t) j (pos 0) h) ∙ ap (λ (l : List ℤ). getD l j (pos 0)) e
-
-    first : getD t (i * 8) (pos 0) ≡ r .verdict
-    first = ap (λ (k : ℕ). getD t k (pos 0)) (sym (add-zero (i * 8))) ∙ part 0 (omega arith)
-
 same : (b : Bool) → _≡_ {A = ℕ} (cond b 0 0) 0
 same true = refl
 same false = refl
@@ -262,4 +248,4 @@ module _ (s : Settings) (t x : List ℤ) (e : settings-no s ≡ 0) (few : F s (l
 pub tracked-row : (s : Settings) (x t : List ℤ) (f : ℕ) (u : List ℤ) → Tracked s x t f u → (i : ℕ) → i < f → row-at u i ≡ rowAt s x nothing i
 unfolding tableOf
 tracked-row s x t f u g i h =
-    ap (λ (l : List ℤ). row-at l i) (g .rows) ∙ row-from _ i _ (row-in s x nothing (F s (length x)) i (drop (F s (length x) * 8) t) (omega (arith, g .count)))
+    ap (λ (l : List ℤ). row-at l i) (g .rows) ∙ row-read _ i _ (row-in s x nothing (F s (length x)) i (drop (F s (length x) * 8) t) (omega (arith, g .count)))

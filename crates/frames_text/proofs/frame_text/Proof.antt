@@ -123,7 +123,7 @@ module _ (c : tie.After-frame-row) where
       let correlation = r-got w32 (c .before .before .i32-at2 .ok) (c .before .before .i32-at2 .ensures) .val in
       let t = sized .before .before .before .settings-in .ensures in
       let x = x-is sized ∙ ap (samples-from (start .args .bytes .now) 19) (size (sized .before .before)) in
-      c .frame-row .ensures
+      c .frame-row .ensures .0
       ∙ (λ i. row-answer (t i) (x i) (lag i) (correlation i))
       ∙ row-whole (settings-in (start .args .bytes .now)) (samples-from (start .args .bytes .now) 19 (frame-length (settings-in (start .args .bytes .now)))) _ _ (all (sized .before .before .before .before) .known) (length-samples _ 19 _)
 

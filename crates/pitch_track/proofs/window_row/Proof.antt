@@ -66,7 +66,7 @@ returns c =
     let l = r-elem w32 (a .p .lag) (d .before .struct-told .given .0 .1) .val in
     let k = r-elem w32 (a .p .correlation) (d .struct-told2 .given .1 .0 .1) .val in
     let size = whole g ∙ g .before .frame-length .ensures in
-    c .frame-row .ensures
+    c .frame-row .ensures .0
     ∙ (λ i. row-answer (a .s) (w i) (l i) (k i))
     ∙ row-whole (a .s) (take (frame-length (a .s)) (drop (a .from) (pending g))) (a .p .lag) (a .p .correlation) (start g .pre .0) (ap length (sym w) ∙ ap length (front g) ∙ size)
 

@@ -13,10 +13,10 @@ use Rattle.sheet_text.proofs.sheet_text.Tie as tie
 
 -- a sheet was read, or none was
 sheet : (c : tie.After-said) → Found (c .before .before .before .before .before .before .before .before .args .input .now) (c .before .before .before .before .before .before .before .before .args .table .now) (c .said .given .0 .0) (c .said .given .0 .1 .0) (c .before .before .before .read-sheet .last .1 .0)
-sheet c = let s = c .before .before .before .before .before .before .before .before in found (s .args .input .now) (s .args .table .now) (s .pre .1) (c .before .before .before .read-sheet .ensures) (c .said .given .1)
+sheet c = let s = c .before .before .before .before .before .before .before .before in found (s .args .input .now) (s .args .table .now) (s .pre .1) (c .before .before .before .read-sheet .ensures .0) (c .said .given .1)
 
 none : (c : tie.After-said2) → Refused (c .before .before .before .before .before .before .before .before .args .input .now) (c .before .before .before .before .before .before .before .before .args .table .now) (c .said2 .given .0 .0) (c .before .before .before .read-sheet .last .1 .0)
-none c = let s = c .before .before .before .before .before .before .before .before in refused (s .args .input .now) (s .args .table .now) (s .pre .1) (c .before .before .before .read-sheet .ensures) (c .said2 .given .1)
+none c = let s = c .before .before .before .before .before .before .before .before in refused (s .args .input .now) (s .args .table .now) (s .pre .1) (c .before .before .before .read-sheet .ensures .0) (c .said2 .given .1)
 
 put-refused-requires : tie.Need-put-refused-requires
 put-refused-requires c κs = search needs

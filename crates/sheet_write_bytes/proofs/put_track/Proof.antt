@@ -13,7 +13,7 @@ module _ (c : tie.After-deliver) where
   start = c .before .before .before .before .before
 
   delivered : outcome (c .deliver .result) (c .deliver .last .1 .1 .0) ≡ deliverOf (startOf (start .args .s) .track) (start .args .table .now) (start .args .x .now)
-  delivered = c .deliver .ensures ∙ ap (λ (r : Started). deliverOf (r .track) (start .args .table .now) (start .args .x .now)) (c .before .before .before .start .ensures)
+  delivered = c .deliver .ensures .0 ∙ ap (λ (r : Started). deliverOf (r .track) (start .args .table .now) (start .args .x .now)) (c .before .before .before .start .ensures .0)
 
 start-requires : tie.Need-start-requires
 start-requires c κs = search needs
@@ -42,7 +42,7 @@ returns c =
     let d = w .before .before .before .before .before in
     let a = start d in
     let g = c .enum-told .given in
-    absurd (never-refused (a .args .s) (a .args .table .now) (a .args .x .now) (a .args .out .now) (a .pre .0) (a .pre .1) (a .pre .2) (outcome (d .deliver .result) (d .deliver .last .1 .1 .0)) (delivered d) (w .write-sheet .result) (w .write-sheet .last .1 .1 .1 .0) (w .write-sheet .ensures) (g .0 .0) (g .1))
+    absurd (never-refused (a .args .s) (a .args .table .now) (a .args .x .now) (a .args .out .now) (a .pre .0) (a .pre .1) (a .pre .2) (outcome (d .deliver .result) (d .deliver .last .1 .1 .0)) (delivered d) (w .write-sheet .result) (w .write-sheet .last .1 .1 .1 .0) (w .write-sheet .ensures .0) (g .0 .0) (g .1))
 
 same-length-3 : tie.Need-same-length-3
 same-length-3 c = search needs
@@ -58,7 +58,7 @@ returns-2 c =
     let g = c .before .w .given in
     let o = outcome (d .deliver .result) (d .deliver .last .1 .1 .0) in
     let p =
-    sheet-put (a .args .s) (a .args .table .now) (a .args .x .now) (a .args .out .now) (a .pre .0) (a .pre .1) (a .pre .2) o (delivered d) (w .write-sheet .result) (w .write-sheet .last .1 .1 .1 .0) (w .write-sheet .ensures) (g .0 .0) (g .1) in
+    sheet-put (a .args .s) (a .args .table .now) (a .args .x .now) (a .args .out .now) (a .pre .0) (a .pre .1) (a .pre .2) o (delivered d) (w .write-sheet .result) (w .write-sheet .last .1 .1 .1 .0) (w .write-sheet .ensures .0) (g .0 .0) (g .1) in
     (p .0, p .1, rows-left (a .args .s) (a .args .table .now) (a .args .x .now) (a .args .out .now) (a .pre .0) (a .pre .1) (a .pre .2) o (delivered d))
 
 pub put-track-spec : {M : Type 1} → statement M

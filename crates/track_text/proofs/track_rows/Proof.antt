@@ -21,7 +21,7 @@ returns c =
     let s = c .before .before .before .before .before .before in
     let d = c .before .before .deliver in
     tracked (s .args .s) (s .args .table .now) (s .args .x .now) (s .pre .0) (s .pre .1) (s .pre .2) (outcome (d .result) (d .last .1 .1 .0))
-    (d .ensures ∙ ap (λ (t : Started). deliverOf (t .track) (s .args .table .now) (s .args .x .now)) (c .before .before .before .before .before .start .ensures))
+    (d .ensures .0 ∙ ap (λ (t : Started). deliverOf (t .track) (s .args .table .now) (s .args .x .now)) (c .before .before .before .before .before .start .ensures .0))
 
 pub track-rows-spec : {M : Type 1} → statement M
 track-rows-spec = tie.close (tie.spec start-requires deliver-requires same-length returns)
