@@ -1,5 +1,5 @@
 -- `silk_pitch_analysis::frame_row` meets its contract. Assumes nothing.
-use mathlib.Core.Path.{_≡_, sym, ap, ap₂, _∙_, subst}
+use mathlib.Core.Path.{_≡_, sym, ap, _∙_, subst}
 use Prim.Native.Nat.{ℕ}
 use borrow.Author.Needs.{needs}
 use borrow.Author.Tests.{ne-eqb}
@@ -23,7 +23,8 @@ verdict : (c : tie.After-analyse)
     ≡ verdict-of (c .before .before .before .args .s) (take (frame-length (c .before .before .before .args .s)) (c .before .before .before .args .x .now)) (c .before .before .before .args .prev-lag) (c .before .before .before .args .prev-corr)
 verdict c =
     let s = c .before .before .before in
-    c .analyse .ensures ∙ ap₂ (verdict-of (s .args .s) (take (frame-length (s .args .s)) (s .args .x .now))) (r-var (s .fits .prev-lag) .val) (r-var (s .fits .prev-corr) .val)
+    c .analyse .ensures
+    ∙ (λ i. verdict-of (s .args .s) (take (frame-length (s .args .s)) (s .args .x .now)) (r-var (s .fits .prev-lag) .val i) (r-var (s .fits .prev-corr) .val i))
 
 frame-no-requires : tie.Need-frame-no-requires
 frame-no-requires c κs = search needs

@@ -1,5 +1,5 @@
 -- `silk_pitch_analysis::silk_pitch_analysis_core` meets its contract. Assumes nothing.
-use mathlib.Core.Path.{_≡_, sym, ap, ap₂, _∙_, subst}
+use mathlib.Core.Path.{_≡_, sym, ap, _∙_, subst}
 use mathlib.Core.List.{List}
 use Prim.Native.Nat.{ℕ}
 use borrow.Author.Needs.{needs}
@@ -25,19 +25,25 @@ verdict : (c : tie.After-analyse)
     ≡ verdict-of (c .before .before .before .args .s) (take (frame-length (c .before .before .before .args .s)) (c .before .before .before .args .frame .now)) (c .before .before .before .args .prev-lag) (c .before .before .before .args .prev-corr)
 verdict c =
     let s = c .before .before .before in
-    c .analyse .ensures ∙ ap₂ (verdict-of (s .args .s) (take (frame-length (s .args .s)) (s .args .frame .now))) (r-var (s .fits .prev-lag) .val) (r-var (s .fits .prev-corr) .val)
+    c .analyse .ensures
+    ∙ (λ i. verdict-of (s .args .s) (take (frame-length (s .args .s)) (s .args .frame .now)) (r-var (s .fits .prev-lag) .val i) (r-var (s .fits .prev-corr) .val i))
 
 frame-no-requires : tie.Need-frame-no-requires
 frame-no-requires c κs = search needs
 
-returns : tie.Need-returns
+-- a refusal, with the lag places as they were
+refused : (c : tie.Then1)
+    → outcome (Refused (c .before .frame-no .result)) (c .before .before .args .pitch-out .now)
+    ≡ frameOf (c .before .before .args .s) (c .before .before .args .frame .now) (c .before .before .args .pitch-out .now) (c .before .before .args .prev-lag) (c .before .before .args .prev-corr)
 unfolding frameOf
-returns c =
+refused c =
     let s = c .before .before in
     let e = c .before .frame-no .ensures in
-    answer-told (s .args .s) (s .args .frame .now) (s .args .pitch-out .now) (s .args .prev-lag) (s .args .prev-corr) _ _
-    (rw (ne-eqb _ 0 (λ (z : frame-no (s .args .s) (length (s .args .frame .now)) (length (s .args .pitch-out .now)) ≡ 0). c .if1 .taken (e ∙ z)))
-    (ap (λ (k : ℕ). outcome (Refused k) (s .args .pitch-out .now)) e))
+    rw (ne-eqb _ 0 (λ (z : frame-no (s .args .s) (length (s .args .frame .now)) (length (s .args .pitch-out .now)) ≡ 0). c .if1 .taken (e ∙ z)))
+    (ap (λ (k : ℕ). outcome (Refused k) (s .args .pitch-out .now)) e)
+
+returns : tie.Need-returns
+returns c = answer-told _ _ _ _ _ _ _ (refused c)
 
 analyse-requires : tie.Need-analyse-requires
 analyse-requires c κs = let t = fine c in (t .settings, t .samples)
