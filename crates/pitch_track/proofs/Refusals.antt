@@ -1,13 +1,15 @@
 -- What each test of `refusal` says of `refusalOf`.
 use Prim.Native.Nat.{ℕ, _+_, _*_, _/_, _≤_, _<_}
 use mathlib.Core.Path.{_≡_}
+use mathlib.Core.Bool.{false}
 use mathlib.Core.Logic.{⊎-elim}
 use native.Mathlib.Omega.{arith}
+use lib.Dec.{ltb, leb}
 use borrow.Author.Tests.{eq-eqb, ne-eqb, lt-ltb, le-ltb, le-leb, lt-leb}
 use Rattle.pitch_settings.specs.declared.Settings.{Settings}
 use Rattle.pitch_settings.specs.Settings.{frame-length, settings-no}
 use Rattle.pitch_track.specs.Paper.{F}
-use Rattle.pitch_track.specs.Step.{refusalOf}
+use Rattle.pitch_track.specs.Step.{first-no, refusalOf}
 use Rattle.pitch_track.proofs.Frames.{lt-or-le, eq-or-ne}
 
 module _ (s : Settings) (f h d n : ℕ) where
@@ -21,6 +23,11 @@ module _ (s : Settings) (f h d n : ℕ) where
     six p = rw (eq-eqb _ _ ok, lt-ltb _ _ p)
 
     module _ (fits : f + F s (h + d) ≤ 4096) where
+      -- what is left to be tested
+      pub later : refusalOf s f h d n ≡ first-no 0 false (leb (frame-length s) h) (ltb 0 (F s (h + d))) (ltb (n / 8) (f + F s (h + d)))
+      unfolding refusalOf
+      later = rw (eq-eqb _ _ ok, le-ltb _ _ fits)
+
       pub nine : frame-length s ≤ h → refusalOf s f h d n ≡ 9
       unfolding refusalOf
       nine p = rw (eq-eqb _ _ ok, le-ltb _ _ fits, le-leb _ _ p)

@@ -11,7 +11,7 @@ use Rattle.pitch_track.specs.declared.Started.{Started}
 use Rattle.pitch_track.specs.declared.Delivered.{Delivered}
 use Rattle.pitch_track.specs.declared.Answer.{Answer}
 use Rattle.pitch_track.specs.declared.Answer.the-variants.{Accepted, Refused}
-use mathlib.Core.Bool.{cond}
+use mathlib.Core.Bool.{Bool, cond}
 use Rattle.pitch_settings.specs.Settings.{frame-length, hop-length, settings-no}
 use Rattle.pitch_track.specs.Paper.{F, before, rowsOf}
 
@@ -41,14 +41,14 @@ freshOf s = record { settings = s; frames = 0; held = zeros; count = 0; lag = po
 unfoldable pub startOf : Settings → Started
 startOf s = record { answer = answerOf (settings-no s) 0; track = freshOf s }
 
--- the refusal of a delivery of d samples by a state of f frames and h samples held, with a table of n numbers; or 0. 6 comes before 9, and 9 before 7
+-- the order of the refusals, or 0: the settings' number comes before 6, 6 before 9, and 9 before 7, which comes only where there are new frames
+abbrev pub first-no : ℕ → Bool → Bool → Bool → Bool → ℕ
+first-no wrong long full new short = cond (eqb wrong 0) (cond long 6 (cond full 9 (cond new (cond short 7 0) 0))) wrong
+
+-- the refusal of a delivery of d samples by a state of f frames and h samples held, with a table of n numbers; or 0
 unfoldable pub refusalOf : Settings → ℕ → ℕ → ℕ → ℕ → ℕ
 refusalOf s f h d n =
-    cond (eqb (settings-no s) 0)
-    (cond (ltb 4096 (f + F s (h + d))) 6
-    (cond (leb (frame-length s) h) 9
-    (cond (ltb 0 (F s (h + d))) (cond (ltb (n / 8) (f + F s (h + d))) 7 0) 0)))
-    (settings-no s)
+    first-no (settings-no s) (ltb 4096 (f + F s (h + d))) (leb (frame-length s) h) (ltb 0 (F s (h + d))) (ltb (n / 8) (f + F s (h + d)))
 
 pub record Outcome : Type 0 where
   pub delivered : Delivered

@@ -1,13 +1,14 @@
 // A pitch track that is fed by deliveries of samples: start and deliver.
 ghost use mathlib.Core.Path.{_≡_};
 ghost use mathlib.Core.List.{[], _∷_, _++_};
-ghost use Prim.Native.Nat.{_+_, _*_, _<_, _≤_};
+ghost use Prim.Native.Nat.{_+_, _*_, _/_, _<_, _≤_};
+ghost use lib.Dec.{ltb, leb};
 ghost use lib.ListN.{length, take, drop, getD};
 ghost use lib.IntN.{pos};
 ghost use Rattle.pitch_settings.specs.Settings.{settings-no, frame-length, hop-length};
 ghost use Rattle.silk_pitch_analysis.specs.declared.RowAnswer.the-variants.{Analysed};
-ghost use Rattle.pitch_track.specs.Paper.{framesIn, rowOf, after, before, rowsOf};
-ghost use Rattle.pitch_track.specs.Step.{padded, startOf, refusalOf, noOf, doneOf, deliverOf, outcome, numberOf, answer-in-numbers};
+ghost use Rattle.pitch_track.specs.Paper.{framesIn, F, rowOf, after, before, rowsOf};
+ghost use Rattle.pitch_track.specs.Step.{padded, startOf, first-no, refusalOf, noOf, doneOf, deliverOf, outcome, numberOf, answer-in-numbers};
 ghost use Rattle.answers.specs.Answer.{answer-numbers};
 use pitch_settings::Settings;
 use pitch_settings::frame_length;
@@ -58,36 +59,84 @@ fn frames_in(len: usize, hop: usize, n: usize) -> usize
     1 + (n - len) / hop
 }
 
-// The refusal of a delivery, or 0.
-fn refusal(s: Settings, frames: usize, count: usize, d: usize, numbers: usize) -> usize
-    requires { ⌜ d < 4611686018427387904 ⌝ }
-    ensures { λ r. ⌜ r ≡ refusalOf s frames count d numbers ⌝ }
+// The order of the refusals, or 0: `wrong` is the settings' number, `long` stands for 6 and `full` for 9; 7 comes where there are new frames and the table is short.
+fn first_no(wrong: usize, long: bool, full: bool, new: bool, short: bool) -> usize
+    ensures { λ r. ⌜ r ≡ first-no wrong long full new short ⌝ }
 {
-    let no = settings_no(s);
-    if no != 0 {
-        return no;
+    if wrong != 0 {
+        return wrong;
     }
-    if frames > 4096 {
+    if long {
         return 6;
+    }
+    if full {
+        return 9;
+    }
+    if new & short {
+        return 7;
+    }
+    0
+}
+
+// Whether d samples more make over 4,096 frames.
+fn is_long(s: Settings, frames: usize, count: usize, d: usize) -> bool
+    requires { ⌜ (settings-no s ≡ 0) × (d < 4611686018427387904) ⌝ }
+    ensures { λ r. ⌜ r ≡ ltb 4096 (frames + F s (count + d)) ⌝ }
+{
+    if frames > 4096 {
+        return true;
     }
     if count > 4611686018427387904 {
-        return 6;
+        return true;
     }
     let len = frame_length(s);
     let hop = hop_length(s);
     let new = frames_in(len, hop, count + d);
     if new > 4096 - frames {
-        return 6;
+        return true;
     }
-    if count >= len {
-        return 9;
+    false
+}
+
+// Whether a state holds N samples or more.
+fn is_full(s: Settings, count: usize) -> bool
+    requires { ⌜ settings-no s ≡ 0 ⌝ }
+    ensures { λ r. ⌜ r ≡ leb (frame-length s) count ⌝ }
+{
+    if count >= frame_length(s) {
+        return true;
     }
-    if new > 0 {
-        if frames + new > numbers / 8 {
-            return 7;
-        }
+    false
+}
+
+// Whether a table has fewer whole rows than frames.
+fn is_short(frames: usize, numbers: usize) -> bool
+    ensures { λ r. ⌜ r ≡ ltb (numbers / 8) frames ⌝ }
+{
+    if frames > numbers / 8 {
+        return true;
     }
-    0
+    false
+}
+
+// The refusal of a delivery, or 0.
+fn refusal(s: Settings, frames: usize, count: usize, d: usize, numbers: usize) -> usize
+    requires { ⌜ d < 4611686018427387904 ⌝ }
+    ensures { λ r. ⌜ r ≡ refusalOf s frames count d numbers ⌝ }
+{
+    let wrong = settings_no(s);
+    if wrong != 0 {
+        return first_no(wrong, false, false, false, false);
+    }
+    let full = is_full(s, count);
+    if is_long(s, frames, count, d) {
+        return first_no(0, true, full, false, false);
+    }
+    let len = frame_length(s);
+    let hop = hop_length(s);
+    let new = frames_in(len, hop, count + d);
+    let short = is_short(frames + new, numbers);
+    first_no(0, false, full, new > 0, short)
 }
 
 // What a row leaves to the next.

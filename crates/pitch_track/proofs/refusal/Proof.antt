@@ -1,100 +1,120 @@
 -- `pitch_track::refusal` meets its contract: a law of `Refusals` for each `return`.
 -- Assumes nothing.
-use mathlib.Core.Path.{_≡_, sym, _∙_}
-use Prim.Native.Nat.{ℕ, _+_}
-use Rattle.pitch_settings.specs.Settings.{settings-no}
-use Rattle.pitch_track.specs.Paper.{F}
+use mathlib.Core.Path.{_≡_, sym, ap, _∙_}
+use mathlib.Core.Bool.{false}
+use Prim.Native.Nat.{ℕ, _+_, _*_, _/_, _≤_, _<_}
 use native.Mathlib.Omega.{arith}
-use Rattle.pitch_track.proofs.Refusals.{bad, six, nine, seven, room, none}
+use native.Mathlib.Nat.{mul-le-mul-right}
+use borrow.Author.Tests.{ne-eqb, ltb-true, ltb-false}
+use lib.Dec.{ltb}
+use Rattle.pitch_settings.specs.Settings.{settings-no, frame-length, hop-length}
 use Rattle.pitch_settings.specs.SettingsLaws.{accepted}
-use Rattle.pitch_track.proofs.Frames.{many}
+use Rattle.pitch_track.specs.Paper.{F}
+use Rattle.pitch_track.specs.Step.{first-no}
+use Rattle.pitch_track.proofs.Frames.{rest}
+use Rattle.pitch_track.proofs.Refusals.{bad, six, later}
 use borrow.Author.Needs.{needs}
 use Rattle.pitch_track.proofs.refusal.Statement.{statement}
 use Rattle.pitch_track.proofs.refusal.Tie as tie
 
-ok : (c : tie.Else1) → settings-no (c .before .before .args .s) ≡ 0
-ok c = sym (c .before .settings-no .ensures) ∙ c .if1 .left
-
-new : (c : tie.After-frames-in) → F (c .before .before .before .before .before .before .before .args .s) (c .before .before .before .before .before .before .before .args .count + c .before .before .before .before .before .before .before .args .d) ≡ c .frames-in .result
-new c = cc
-
 settings-no-requires : tie.Need-settings-no-requires
 settings-no-requires c κs = search needs
 
+first-no-requires : tie.Need-first-no-requires
+first-no-requires c κs = search needs
+
 returns : tie.Need-returns
-returns c = c .before .settings-no .ensures ∙ sym (bad _ _ _ _ _ (λ e. c .if1 .taken (c .before .settings-no .ensures ∙ e)))
+returns c =
+    let a = c .before .before .before .args in
+    let w = c .before .before .settings-no in
+    c .first-no .ensures
+    ∙ rw (ne-eqb (w .result) 0 (c .before .if1 .taken))
+    (w .ensures ∙ sym (bad (a .s) (a .frames) (a .count) (a .d) (a .numbers) (λ e. c .before .if1 .taken (w .ensures ∙ e))))
+
+-- the settings are accepted
+ok : (c : tie.After-is-full) → settings-no (c .before .before .before .args .s) ≡ 0
+ok c = sym (c .before .before .settings-no .ensures) ∙ c .before .if1 .left
+
+is-full-requires : tie.Need-is-full-requires
+is-full-requires c κs = search needs
+
+is-long-requires : tie.Need-is-long-requires
+is-long-requires c κs = (ok c, c .before .before .before .pre)
+
+first-no-requires-2 : tie.Need-first-no-requires-2
+first-no-requires-2 c κs = search needs
 
 returns-2 : tie.Need-returns-2
 returns-2 c =
-    let a = c .before .before .before .args in
-    sym (six (a .s) (a .frames) (a .count) (a .d) (a .numbers) (ok (c .before)) (omega arith))
+    let l = c .before .before in
+    let a = l .before .before .before .before .args in
+    c .first-no2 .ensures ∙ sym (six (a .s) (a .frames) (a .count) (a .d) (a .numbers) (ok (l .before)) (ltb-true _ _ (sym (l .is-long .ensures) ∙ c .before .if2 .taken)))
 
-returns-3 : tie.Need-returns-3
-returns-3 c =
-    let a = c .before .before .before .before .args in
-    let z = accepted _ (ok (c .before .before)) in
-    sym (six (a .s) (a .frames) (a .count) (a .d) (a .numbers) (ok (c .before .before)) (omega (arith, many _ _ (z .some) (z .within) (a .count + a .d) 4096 (omega arith))))
+-- the frames fit, and so the samples are few
+module _ (c : tie.Else2) where
+  abbrev start : tie.Start
+  start = c .before .before .before .before .before
+
+  fits : start .args .frames + F (start .args .s) (start .args .count + start .args .d) ≤ 4096
+  fits = ltb-false _ _ (sym (c .before .is-long .ensures) ∙ c .if2 .left)
+
+  few : start .args .count + start .args .d < 4097 * 640
+  few =
+      let a = start .args in
+      let z = accepted _ (ok (c .before .before)) in
+      let m : F (a .s) (a .count + a .d) * hop-length (a .s) ≤ 4096 * hop-length (a .s) = mul-le-mul-right (hop-length (a .s)) (omega (arith, fits)) in
+      omega (arith, rest (frame-length (a .s)) (hop-length (a .s)) (z .some) (z .within) (a .count + a .d), z .within, z .small)
 
 frame-length-requires : tie.Need-frame-length-requires
-frame-length-requires c κs = search needs
+frame-length-requires c κs = ok (c .before .before)
 
 hop-length-requires : tie.Need-hop-length-requires
-hop-length-requires c κs = search needs
+hop-length-requires c κs = ok (c .before .before .before)
 
 add-frames-in : tie.Need-add-frames-in
-add-frames-in c = search needs
+add-frames-in c = omega (arith, few (c .before .before))
 
 frames-in-requires : tie.Need-frames-in-requires
 frames-in-requires c κs = let z = accepted _ (ok (c .before .before .before .before)) in omega arith
 
-returns-4 : tie.Need-returns-4
-returns-4 c =
-    let a = c .before .before .before .before .before .before .before .before .args in
-    let e = new (c .before) in
-    sym (six (a .s) (a .frames) (a .count) (a .d) (a .numbers) (ok (c .before .before .before .before .before .before)) (omega arith))
+new : (c : tie.After-frames-in) → c .frames-in .result ≡ F (start (c .before .before .before) .args .s) (start (c .before .before .before) .args .count + start (c .before .before .before) .args .d)
+new c = cc
 
-returns-5 : tie.Need-returns-5
-returns-5 c =
-    let a = c .before .before .before .before .before .before .before .before .before .args in
-    let e = new (c .before .before) in
-    sym (nine (a .s) (a .frames) (a .count) (a .d) (a .numbers) (ok (c .before .before .before .before .before .before .before)) (omega arith) (omega arith))
+add-is-short : tie.Need-add-is-short
+add-is-short c = omega (arith, fits (c .before .before .before), new c)
 
-add-if7 : tie.Need-add-if7
-add-if7 c = search needs
+is-short-requires : tie.Need-is-short-requires
+is-short-requires c κs = search needs
 
-returns-6 : tie.Need-returns-6
-returns-6 c =
-    let a = c .before .before .before .before .before .before .before .before .before .before .before .args in
-    let e = new (c .before .before .before .before) in
-    sym (seven (a .s) (a .frames) (a .count) (a .d) (a .numbers) (ok (c .before .before .before .before .before .before .before .before .before)) (omega arith) (omega arith) (omega arith) (omega arith))
+first-no-requires-3 : tie.Need-first-no-requires-3
+first-no-requires-3 c κs = search needs
 
-returns-7 : tie.Need-returns-7
-returns-7 c =
-    let a = c .before .before .before .before .before .before .before .before .before .before .before .args in
-    let e = new (c .before .before .before .before) in
-    sym (room (a .s) (a .frames) (a .count) (a .d) (a .numbers) (ok (c .before .before .before .before .before .before .before .before .before)) (omega arith) (omega arith) (omega arith) (omega arith))
-
-returns-8 : tie.Need-returns-8
-returns-8 c =
-    let a = c .before .before .before .before .before .before .before .before .before .before .args in
-    let e = new (c .before .before .before) in
-    sym (none (a .s) (a .frames) (a .count) (a .d) (a .numbers) (ok (c .before .before .before .before .before .before .before .before)) (omega arith) (omega arith) (omega arith))
+returns-3 : tie.Need-returns-3
+returns-3 c =
+    let p = c .before .before in
+    let q = p .before .before .before in
+    let a = start q .args in
+    let short = c .before .is-short .ensures ∙ ap (λ (k : ℕ). ltb (a .numbers / 8) (a .frames + k)) (new p) in
+    c .first-no3 .ensures
+    ∙ (λ i. first-no 0 false (q .before .before .is-full .ensures i) (ltb 0 (new p i)) (short i))
+    ∙ sym (later (a .s) (a .frames) (a .count) (a .d) (a .numbers) (ok (q .before .before)) (fits q))
 
 pub refusal-spec : {M : Type 1} → statement M
 refusal-spec =
     tie.close
     (tie.spec
     settings-no-requires
+    first-no-requires
     returns
+    is-full-requires
+    is-long-requires
+    first-no-requires-2
     returns-2
-    returns-3
     frame-length-requires
     hop-length-requires
     add-frames-in
     frames-in-requires
-    returns-4
-    returns-5
-    add-if7
-    returns-6
-    returns-7
-    returns-8)
+    add-is-short
+    is-short-requires
+    first-no-requires-3
+    returns-3)
