@@ -2,24 +2,48 @@
 // it prints). A record that is cut or refused is the last.
 ghost use Prim.Native.Nat.{_≤_};
 ghost use lib.ListN.{length};
+ghost use Rattle.io.specs.Counts.{Counts};
 use frames_text::frame_text;
 use frames_text::record_length;
-use libc::STDIN_FILENO;
-use libc::STDOUT_FILENO;
+use recording_io::Input;
+use recording_io::read_input;
+use recording_io::say_unread;
+use recording_io::write_output;
 
-// Reads a record and prints its line or its refusal; whether more may follow.
+// Reads a record: its first 19 bytes and as many more as they ask for, or what there is of them.
+fn read_record(bytes: &mut [u8]) -> Input
+    requires { ⌜ 1299 ≤ length (now bytes) ⌝ }
+    ensures { λ r. ⌜ Counts (r .count) (now (bytes .exit)) ⌝ }
+{
+    let start = read_input(&mut bytes[..19]);
+    if start.failed {
+        return start;
+    }
+    let head = start.count;
+    let end = record_length(&bytes[..head]);
+    let rest = read_input(&mut bytes[head..end]);
+    Input {
+        count: head + rest.count,
+        failed: rest.failed,
+    }
+}
+
+// Reads a record and prints its line or its refusal; whether more may follow. Nothing follows a read or a write that failed.
 fn print_record(bytes: &mut [u8], samples: &mut [i16], out: &mut [u8]) -> bool
     requires { ⌜ (1299 ≤ length (now bytes)) × (640 ≤ length (now samples)) × (86 ≤ length (now out)) ⌝ }
 {
-    let head = io::read_full(STDIN_FILENO, &mut bytes[..19]);
-    if head == 0 {
+    let got = read_record(bytes);
+    if got.failed {
+        say_unread(b"frames");
         return false;
     }
-    let end = record_length(&bytes[..head]);
-    let rest = io::read_full(STDIN_FILENO, &mut bytes[head..end]);
-    let line = frame_text(&bytes[..head + rest], samples, out);
-    io::write_all(STDOUT_FILENO, &out[..line.len]);
-    line.number == 0
+    let n = got.count;
+    if n == 0 {
+        return false;
+    }
+    let line = frame_text(&bytes[..n], samples, out);
+    let written = write_output(b"frames", &out[..line.len]);
+    written && line.number == 0
 }
 
 // Every record, up to 2 to the 40.

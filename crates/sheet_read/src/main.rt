@@ -1,8 +1,9 @@
 // The program `sheet_read`: reads a sheet from standard input and prints its settings and rows, or the refusal (`sheet_text` has what it prints).
 ghost use mathlib.Core.Path.{_≡_};
 ghost use lib.ListN.{length};
-use libc::STDIN_FILENO;
-use libc::STDOUT_FILENO;
+use recording_io::read_whole;
+use recording_io::say_unread;
+use recording_io::write_output;
 use sheet_text::sheet_text;
 
 // Room for the longest sheet. The `ensures` of these gives only the length, so that nothing unfolds the zeros.
@@ -24,18 +25,16 @@ fn text_room() -> [u8; 397383]
     [0; 397383]
 }
 
-// Whether a byte is left to read.
-fn more_left() -> bool {
-    let mut next = [0u8; 1];
-    io::read_full(STDIN_FILENO, &mut next) != 0
-}
-
 fn main() {
     let mut page = page_room();
-    let n = io::read_full(STDIN_FILENO, &mut page);
-    let more = if n == 32804 { more_left() } else { false };
+    let got = read_whole(&mut page, 1);
+    if got.failed {
+        say_unread(b"sheet_read");
+        return;
+    }
+    let n = got.count;
     let mut table = table_room();
     let mut out = text_room();
-    let r = sheet_text(&page[..n], more, &mut table, &mut out);
-    io::write_all(STDOUT_FILENO, &out[..r]);
+    let r = sheet_text(&page[..n], got.more > 0, &mut table, &mut out);
+    write_output(b"sheet_read", &out[..r]);
 }

@@ -1,16 +1,17 @@
--- `recording_io::count_rest` meets its contract. Assumes nothing.
+-- `recording_io::count_rest` meets its contract. The invariant: at most 65,536 bytes a read. Assumes nothing.
 use mathlib.Core.Path.{_≡_}
-use Prim.Native.Nat.{_*_, _-_, _≤_}
+use Prim.Native.Nat.{_*_, _≤_, _-_}
+use native.Mathlib.Omega.{arith}
 use borrow.Author.Needs.{needs}
 use lib.ListN.{length}
 use Rattle.recording_io.proofs.count_rest.Statement.{statement}
 use Rattle.recording_io.proofs.count_rest.Tie as tie
 
 abbrev Inv-loop : tie.InvT-loop
-Inv-loop chunk₀ total₀ turns₀ chunk total turns = (turns ≤ 1099511627776) × (total ≤ 65536 * turns) × (65536 ≡ length chunk)
+Inv-loop reads chunk₀ total₀ counter₀ chunk total counter = (counter ≤ reads) × (total ≤ 65536 * counter) × (65536 ≡ length chunk)
 
 abbrev μ-loop : tie.MeasureT-loop
-μ-loop chunk₀ total₀ turns₀ chunk total turns = 1099511627776 - turns
+μ-loop reads chunk₀ total₀ counter₀ chunk total counter = reads - counter
 
 large-buffer-requires : tie.Need-large-buffer-requires Inv-loop μ-loop
 large-buffer-requires c κs = search needs
@@ -18,11 +19,11 @@ large-buffer-requires c κs = search needs
 loop-holds : tie.Need-loop-holds Inv-loop μ-loop
 loop-holds c = search needs
 
-slice-aggregate-read-full : tie.Need-slice-aggregate-read-full Inv-loop μ-loop
-slice-aggregate-read-full c = search needs
+slice-aggregate-read-once : tie.Need-slice-aggregate-read-once Inv-loop μ-loop
+slice-aggregate-read-once c = search needs
 
-read-full-requires : tie.Need-read-full-requires Inv-loop μ-loop
-read-full-requires c κs = search needs
+read-once-requires : tie.Need-read-once-requires Inv-loop μ-loop
+read-once-requires c κs = search needs
 
 returns : tie.Need-returns Inv-loop μ-loop
 returns c = search needs
@@ -30,8 +31,8 @@ returns c = search needs
 add-total : tie.Need-add-total Inv-loop μ-loop
 add-total c = search needs
 
-add-turns : tie.Need-add-turns Inv-loop μ-loop
-add-turns c = search needs
+add-counter : tie.Need-add-counter Inv-loop μ-loop
+add-counter c = search needs
 
 loop-less : tie.Need-loop-less Inv-loop μ-loop
 loop-less c = search needs
@@ -50,11 +51,11 @@ count-rest-spec =
     μ-loop
     large-buffer-requires
     loop-holds
-    slice-aggregate-read-full
-    read-full-requires
+    slice-aggregate-read-once
+    read-once-requires
     returns
     add-total
-    add-turns
+    add-counter
     loop-less
     loop-again
     returns-2)

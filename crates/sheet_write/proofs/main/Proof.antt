@@ -1,6 +1,5 @@
--- `sheet_write::main` meets its contract: more bytes are counted only where the buffer is full, and the bytes are within theirs. Assumes nothing.
-use mathlib.Core.Path.{_≡_, sym}
-use mathlib.Core.Logic.{⊎-elim}
+-- `sheet_write::main` meets its contract: more bytes are told of only where the buffer is full, and the sheet is within its own. Assumes nothing.
+use mathlib.Core.Path.{sym}
 use native.Mathlib.Omega.{arith}
 use borrow.Author.Needs.{needs}
 use lib.Seq.{length-take-le}
@@ -10,14 +9,20 @@ use Rattle.sheet_write.proofs.main.Tie as tie
 input-room-requires : tie.Need-input-room-requires
 input-room-requires c κs = search needs
 
-slice-aggregate-read-full : tie.Need-slice-aggregate-read-full
-slice-aggregate-read-full c = search needs
+slice-aggregate-read-whole : tie.Need-slice-aggregate-read-whole
+slice-aggregate-read-whole c = search needs
 
-read-full-requires : tie.Need-read-full-requires
-read-full-requires c κs = search needs
+read-whole-requires : tie.Need-read-whole-requires
+read-whole-requires c κs = search needs
 
-count-rest-requires : tie.Need-count-rest-requires
-count-rest-requires c κs = search needs
+slice-aggregate-say-unread : tie.Need-slice-aggregate-say-unread
+slice-aggregate-say-unread c = search needs
+
+say-unread-requires : tie.Need-say-unread-requires
+say-unread-requires c κs = search needs
+
+returns : tie.Need-returns
+returns c = search needs
 
 sample-room-requires : tie.Need-sample-room-requires
 sample-room-requires c κs = search needs
@@ -45,35 +50,36 @@ slice-aggregate-sheet-write-bytes-4 c = search needs
 
 sheet-write-bytes-requires : tie.Need-sheet-write-bytes-requires
 sheet-write-bytes-requires c κs =
-    let f = c .before .before .before .before .before .before .before .before .before .read-full in (
-      λ h. ⊎-elim (λ w. omega (arith, w .0 .taken, f .ensures)) (λ w. let e : c .before .before .before .before .before .before .before .if1 .more ≡ 0 = w .1 in absurd (omega arith)) (c .before .before .before .before .before .before .before .if1 .came),
-      search needs,
-      search needs,
-      search needs,
-    )
+    let f = c .before .before .before .before .before .before .before .before .before .read-whole in
+    (λ h. omega (arith, f .ensures .1 h, f .ensures .0), search needs, search needs, search needs)
+
+slice-aggregate-write-output : tie.Need-slice-aggregate-write-output
+slice-aggregate-write-output c = search needs
 
 array-share-prefix-out : tie.Need-array-share-prefix-out
 array-share-prefix-out c = search needs
 
-slice-aggregate-write-all : tie.Need-slice-aggregate-write-all
-slice-aggregate-write-all c =
-    let w = c .before .before .before .before .sheet-write-bytes in
-    sym (length-take-le (w .result) (w .last .1 .1 .1 .1 .0) (omega (arith, w .ensures .1, w .kept .1 .1 .1 .1 .0, c .before .before .before .before .before .before .before .before .before .sheet-room .ensures)))
+slice-aggregate-write-output-2 : tie.Need-slice-aggregate-write-output-2
+slice-aggregate-write-output-2 c =
+    let w = c .before .before .before .before .before .sheet-write-bytes in
+    sym (length-take-le (w .result) (w .last .1 .1 .1 .1 .0) (omega arith))
 
-write-all-requires : tie.Need-write-all-requires
-write-all-requires c κs = search needs
+write-output-requires : tie.Need-write-output-requires
+write-output-requires c κs = search needs
 
-returns : tie.Need-returns
-returns c = search needs
+returns-2 : tie.Need-returns-2
+returns-2 c = search needs
 
 pub main-spec : {M : Type 1} → statement M
 main-spec =
     tie.close
     (tie.spec
     input-room-requires
-    slice-aggregate-read-full
-    read-full-requires
-    count-rest-requires
+    slice-aggregate-read-whole
+    read-whole-requires
+    slice-aggregate-say-unread
+    say-unread-requires
+    returns
     sample-room-requires
     table-room-requires
     sheet-room-requires
@@ -83,7 +89,8 @@ main-spec =
     slice-aggregate-sheet-write-bytes-3
     slice-aggregate-sheet-write-bytes-4
     sheet-write-bytes-requires
+    slice-aggregate-write-output
     array-share-prefix-out
-    slice-aggregate-write-all
-    write-all-requires
-    returns)
+    slice-aggregate-write-output-2
+    write-output-requires
+    returns-2)

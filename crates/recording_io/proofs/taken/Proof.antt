@@ -1,0 +1,21 @@
+-- `recording_io::taken` meets its contract: count and test are those of the definition. Assumes nothing.
+use borrow.Author.Needs.{needs}
+use mathlib.Core.Path.{refl, ap, _∙_}
+use lib.IntN.{ℤ}
+use lib.ListN.{length}
+use Rattle.recording_io.specs.Answered.{answered}
+use Rattle.recording_io.specs.AnsweredLaws.{answered-is}
+use Rattle.zint.specs.Read.{r-var}
+use Rattle.recording_io.proofs.taken.Statement.{statement}
+use Rattle.recording_io.proofs.taken.Tie as tie
+
+count-requires : tie.Need-count-requires
+count-requires c κs = search needs
+
+returns : tie.Need-returns
+returns c =
+    let s = c .before .before in
+    (answered-is _ _ _ _ (c .count .ensures .1) refl ∙ ap (λ (z : ℤ). answered z (length (s .args .part .now))) (r-var (s .fits .got) .val), search needs)
+
+pub taken-spec : {M : Type 1} → statement M
+taken-spec = tie.close (tie.spec count-requires returns)

@@ -1,0 +1,3 @@
+-- What reading says. Definition: `Answered`; law: `AnsweredLaws`.
+pub mod Answered
+pub mod AnsweredLaws
