@@ -54,6 +54,7 @@ abbrev pub won-values : (ℕ → ℕ → ℤ) → ℕ → ℕ → Place → List
 won-values c nb m none = []
 won-values c nb m (at p) = pos (16 + p) ∷ pos (best-contour c nb m (16 + p)) ∷ (quotZ (lag-sum c nb m (16 + p)) (pos nb) *ℤ pos 4) ∷ []
 
+-- stage 2's verdict, and the values that come with verdict 0
 unfoldable pub stage2-verdict : List ℤ → List ℕ → ℕ → ℕ → ℕ → ℤ → ℤ → ℤ → ℕ
 stage2-verdict e kept fs nb cx thres2 prev corr =
     cond (zero2 e kept nb) 2 (won-verdict (winner (correlation e kept) kept nb (contours2 fs nb cx) thres2 (prev-8khz fs prev) corr))
