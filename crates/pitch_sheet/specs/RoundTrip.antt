@@ -1,7 +1,7 @@
 -- The round trips and the sizes, as statements about what the two calls are equated with. Statements only; `RoundTripLaws` proves them.
 use mathlib.Core.Path.{_≡_}
 use mathlib.Core.List.{List, [], _∷_, _++_}
-use Prim.Native.Nat.{ℕ, _+_, _*_, _≤_}
+use Prim.Native.Nat.{ℕ, _+_, _*_, _≤_, _<_}
 use lib.IntN.{ℤ, pos}
 use lib.ListN.{length, getD, take, drop}
 use mir.Syntax.{w32}
@@ -38,8 +38,9 @@ pub record RoundTrip : Type 0 where
   pub read-writes : (p : List ℕ) (t : List ℤ) (s : Settings) (n : ℕ) (after : List ℤ) → Bytes p
       → readOf p t ≡ got (Read s n) after
       → (page : List ℕ) → length p ≤ length page → writeOf s n after page ≡ wrote (Written (length p)) (p ++ drop (length p) page)
-  -- a page is read exactly where it is a sheet: a sheet is read, into a table that has the rows; 9 is said of no sheet, and of every other page
+  -- a page is read exactly where it is a sheet: a sheet is read into a table that has the rows, and refused with 7 where the table has fewer; 9 is said of no sheet, and of every other page
   pub sheet-reads : (s : Settings) (rs : List Row) (t : List ℤ) → Holds s rs → length rs ≤ whole-rows t → readOf (sheet s rs) t ≡ got (Read s (length rs)) (numbers-of rs ++ drop (length rs * 8) t)
+  pub sheet-short : (s : Settings) (rs : List Row) (t : List ℤ) → Holds s rs → whole-rows t < length rs → readOf (sheet s rs) t ≡ got (NotRead 7) t
   pub nine-no-sheet : (p : List ℕ) (t : List ℤ) → readOf p t .answer ≡ NotRead 9 → IsSheet p → ⊥
   pub no-sheet-nine : (p : List ℕ) (t : List ℤ) → Bytes p → (IsSheet p → ⊥) → readOf p t .answer ≡ NotRead 9
   -- two sheets with the same bytes are of the same settings and rows

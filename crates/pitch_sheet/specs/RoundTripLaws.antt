@@ -110,6 +110,10 @@ sheet-reads s rs t h l =
     read-done p t (sheet-page p (sheet-well-formed s rs h)) (omega (arith, n))
     ∙ (λ u. got (Read (a u) (n u)) (numbers-of (r u) ++ drop (n u * 8) t))
 
+-- a table that has fewer rows
+sheet-short : (s : Settings) (rs : List Row) (t : List ℤ) → Holds s rs → whole-rows t < length rs → readOf (sheet s rs) t ≡ got (NotRead 7) t
+sheet-short s rs t h l = let p = sheet s rs in let n = sheet-frames s rs h in read-short p t (sheet-page p (sheet-well-formed s rs h)) (omega (arith, n))
+
 -- ---- what was written
 
 module _ (s : Settings) (n : ℕ) (t : List ℤ) (page : List ℕ) (k : ℕ) (after : List ℕ) (done : writeOf s n t page ≡ wrote (Written k) after) where
@@ -279,6 +283,7 @@ round-trip = record {
   written-reads = λ s n t page k after a b w done into l. written-reads s n t page k after done a b w into l;
   read-writes = λ p t s n after bytes done page l. read-writes p t s n after bytes done page l;
   sheet-reads = sheet-reads;
+  sheet-short = sheet-short;
   nine-no-sheet = nine-no-sheet;
   no-sheet-nine = no-sheet-nine;
   one-meaning = one-meaning;
