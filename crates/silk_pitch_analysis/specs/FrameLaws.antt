@@ -1,4 +1,4 @@
--- Laws of a frame: its verdict's pair is one that the index code carries, and what the stages are handed.
+-- Laws of a frame: its verdict's pair is one that the index code carries, what the stages are handed, and the answers in numbers.
 -- Assumes nothing.
 use mathlib.Core.Path.{_≡_, refl, sym, ap, _∙_, subst}
 use mathlib.Core.Bool.{Bool, true, false, cond}
@@ -12,7 +12,6 @@ use lib.IntN.{ℤ, pos, natAbs, _-ℤ_}
 use lib.ListN.{length, take}
 use lib.Seq.{take-all}
 use lib.Signed.{_<ℤ_}
-use Rattle.answers.specs.Answer.{answer-numbers}
 use Rattle.zint.specs.Diff.{eq-of, sub-ud′, of-lt, zarith}
 use Rattle.pitch_settings.specs.declared.Settings.{Settings}
 use Rattle.pitch_settings.specs.Settings.{settings-no, frame-length}

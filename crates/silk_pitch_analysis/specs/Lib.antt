@@ -1,4 +1,4 @@
--- The frame: definitions in `Frame`; that its pair is carried in `VerdictLaws`.
+-- The frame: definitions in `Frame`; that its pair is carried in `VerdictLaws`; what each verdict means in `Meaning`, and that it comes exactly then in `Theorem`.
 pub mod Frame
 pub mod FrameLaws
 pub mod VerdictLaws
