@@ -49,7 +49,7 @@ pub fn table_room() -> [i32; 8192]
 }
 
 // What a read's answer says: a negative one that it failed, any other how many bytes it brought, 0 at the end of the input.
-pub fn taken(got: isize, part: &[u8]) -> Input
+fn taken(got: isize, part: &[u8]) -> Input
     ensures { λ r. ⌜ r ≡ answered got (length (now (part .entry))) ⌝ }
     ensures { λ r. ⌜ r .count ≤ length (now (part .entry)) ⌝ }
 {
