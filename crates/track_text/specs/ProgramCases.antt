@@ -1,18 +1,21 @@
--- Cases of the definitions, by computation: samples left, the refusals in their order, and inputs with no frame.
+-- Cases of the definitions, by computation: samples left, the refusals in their order, inputs with no frame, and what they leave of longer lists.
 -- Assumes nothing.
 use mathlib.Core.Path.{_≡_, refl}
-use mathlib.Core.List.{[], _∷_, map}
+use mathlib.Core.List.{List, [], _∷_, _++_, map}
 use Prim.Native.Nat.{ℕ}
 use lib.IntN.{pos}
 use lib.ListN.{replicate}
+use Rattle.zint.specs.Wrap.{modZ, wrap}
 use Rattle.lists.specs.Fill.{table}
+use Rattle.lists.specs.Push.{headed}
+use Rattle.sheet_bytes.specs.Bytes.{number, number-at}
 use Rattle.pitch_settings.specs.declared.Settings.{Settings}
 use Rattle.pitch_settings.specs.Settings.{rate-known, subframes-known, settings-no, frame-length, hop-length}
-use Rattle.pitch_input.specs.Input.{settings-in, samples-from}
+use Rattle.pitch_input.specs.Input.{settings-in, sample-at, samples-from}
 use Rattle.pitch_text.specs.Decimal.{digits-to, digits}
 use Rattle.pitch_text.specs.Text.{lines-text, refused-text}
-use Rattle.pitch_track.specs.Paper.{framesIn}
-use Rattle.track_text.specs.Program.{samples-in, half-input, first-no, program-no, samples-left, head-text, report, track-text}
+use Rattle.pitch_track.specs.Paper.{framesIn, rowsOf, tableOf}
+use Rattle.track_text.specs.Program.{samples-in, half-input, first-no, program-no, samples-left, head-text, report, track-text, Printed, printed, samples-after, table-after, answered, printedOf}
 
 abbrev settings : ℕ → ℕ → ℕ → Settings
 settings rate nb complexity = record { rate = rate; nb = nb; complexity = complexity; thres1 = pos 0; thres2 = pos 0 }
@@ -43,3 +46,15 @@ pub text-cases :
     ≡ (114 ∷ 101 ∷ 102 ∷ 117 ∷ 115 ∷ 101 ∷ 100 ∷ 32 ∷ 49 ∷ 48 ∷ 10 ∷ []) ∷ (48 ∷ 32 ∷ 49 ∷ 10 ∷ []) ∷ []
 unfolding track-text report head-text lines-text samples-left refused-text digits digits-to program-no first-no half-input settings-in samples-in samples-from settings-no rate-known subframes-known framesIn frame-length hop-length table
 text-cases = refl
+
+-- no byte, and one sample of 5, over lists of sevens and two numbers each: the rest of each list stays, and by the refusal samples and table
+abbrev left-of : List ℕ → Printed
+left-of b = printedOf b (replicate 13 7) (pos 1 ∷ pos 2 ∷ []) (pos 3 ∷ pos 4 ∷ [])
+
+pub outcome-cases :
+    map left-of ([] ∷ (8 ∷ 2 ∷ 0 ∷ (replicate 8 0 ++ (5 ∷ 0 ∷ []))) ∷ [])
+    ≡ printed 11 (114 ∷ 101 ∷ 102 ∷ 117 ∷ 115 ∷ 101 ∷ 100 ∷ 32 ∷ 49 ∷ 48 ∷ 10 ∷ 7 ∷ 7 ∷ []) (pos 1 ∷ pos 2 ∷ []) (pos 3 ∷ pos 4 ∷ [])
+    ∷ printed 4 (48 ∷ 32 ∷ 49 ∷ 10 ∷ replicate 9 7) (pos 5 ∷ pos 2 ∷ []) (pos 3 ∷ pos 4 ∷ [])
+    ∷ []
+unfolding printedOf answered samples-after table-after headed tableOf rowsOf track-text report head-text lines-text samples-left refused-text digits digits-to program-no first-no half-input settings-in samples-in samples-from sample-at number number-at modZ wrap settings-no rate-known subframes-known framesIn frame-length hop-length table
+outcome-cases = refl

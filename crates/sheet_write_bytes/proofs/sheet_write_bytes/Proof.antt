@@ -82,7 +82,7 @@ returns c =
           let b = s .args .input .now ++ rest in
           let wrong = c .before .before .before .before .if1 .taken in
           let q = put-as (w .0) (written-refused b (p .result) (p .ensures rest e) wrong) in
-          answer-refused b _ out _ _ (put-count q) (put-over q (omega (arith, w .1, s .pre .3))) (p .result) (p .ensures rest e) wrong,
+          answer-refused b _ out (s .args .samples .now) (s .args .table .now) (put-count q) (put-over q (omega (arith, w .1, s .pre .3))) (p .result) (p .ensures rest e) wrong,
       omega (arith, w .1),
     )
 
