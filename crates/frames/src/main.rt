@@ -1,5 +1,5 @@
 // The program `frames`: reads records of settings, previous lag, previous correlation and a frame's samples from standard input, and prints a line for each (`frames_text` has what
-// it prints). A record that is cut or refused is the last.
+// it prints). A record that is cut or refused is the last. Where a read fails it prints nothing more; that, or a failed write, it says in a line on standard error.
 ghost use Prim.Native.Nat.{_≤_};
 ghost use lib.ListN.{length};
 ghost use Rattle.io.specs.Counts.{Counts};

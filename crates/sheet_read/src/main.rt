@@ -1,4 +1,5 @@
 // The program `sheet_read`: reads a sheet from standard input and prints its settings and rows, or the refusal (`sheet_text` has what it prints).
+// Where a read fails it prints nothing; that, or a failed write, it says in a line on standard error.
 ghost use mathlib.Core.Path.{_≡_};
 ghost use lib.ListN.{length};
 use recording_io::read_whole;

@@ -1,4 +1,5 @@
 // The program `sheet_write`: reads settings and samples from standard input, as `track` does, and writes the track's sheet, or the refusal (`sheet_write_bytes` has what it writes).
+// Where a read fails it writes nothing; that, or a failed write, it says in a line on standard error.
 ghost use mathlib.Core.Path.{_≡_};
 ghost use lib.ListN.{length};
 use recording_io::EVERY;

@@ -1,4 +1,5 @@
 // The program `track`: reads settings and samples from standard input and prints the rows of the track, or the refusal (`track_text` has what it prints).
+// Where a read fails it prints nothing; that, or a failed write, it says in a line on standard error.
 ghost use mathlib.Core.Path.{_≡_};
 ghost use lib.ListN.{length};
 use recording_io::EVERY;
