@@ -1,7 +1,10 @@
 // An input of the program `track` and the text for it. The body: how many bytes of 0 stand after the input, the text's length (4 bytes each), the text, the input.
+ghost use mathlib.Core.List.{List, _++_};
 ghost use mathlib.Core.Path.{_≡_};
-ghost use Prim.Native.Nat.{_<_, _≤_};
+ghost use Prim.Native.Nat.{ℕ, _<_, _≤_};
 ghost use lib.ListN.{length};
+ghost use Rattle.track_text.specs.Program.{track-text};
+ghost use Rattle.cases_track.specs.Text.{Tells, TextAgrees};
 use crate::least;
 use cases_io::u32_at;
 use check::same;
@@ -19,6 +22,7 @@ fn text_room() -> [u8; 99350]
 // Whether the text for this input, with so many bytes after it, is the one told.
 fn is_told(input: &[u8], more: usize, told: &[u8]) -> bool
     requires { ⌜ (0 < more → 656651 ≤ length (now input)) ⌝ }
+    ensures { λ r. ⌜ ((rest : List ℕ) → length rest ≡ more → Tells r (track-text (now (input .entry) ++ rest) ≡ now (told .entry))) ⌝ }
 {
     let mut samples = sample_room();
     let mut table = table_room();
@@ -30,6 +34,7 @@ fn is_told(input: &[u8], more: usize, told: &[u8]) -> bool
 // Whether the text is the one that the body tells. The bytes after the body are 0, and so the input's zeros are among them; those past the program's room are only counted.
 pub fn agrees(body: &[u8], size: usize) -> bool
     requires { ⌜ (1048576 ≡ length (now body)) × (size ≤ 1048576) ⌝ }
+    ensures { λ r. ⌜ Tells r (TextAgrees (now (body .entry)) size) ⌝ }
 {
     let zeros = u32_at(body, 0);
     let told = u32_at(body, 4);

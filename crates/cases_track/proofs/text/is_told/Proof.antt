@@ -1,7 +1,8 @@
--- `cases_track::text::is_told` meets its contract: the text is within its room. Assumes nothing.
-use mathlib.Core.Path.{sym}
+-- `cases_track::text::is_told` meets its contract: what `track_text` wrote first is the input's text. Assumes nothing.
+use mathlib.Core.Path.{sym, _∙_}
 use lib.Seq.{length-take-le}
 use borrow.Author.Needs.{needs}
+use Rattle.cases_track.specs.TextLaws.{text-of}
 use Rattle.cases_track.proofs.text.is_told.Statement.{statement}
 use Rattle.cases_track.proofs.text.is_told.Tie as tie
 
@@ -36,7 +37,9 @@ same-requires : tie.Need-same-requires
 same-requires c κs = search needs
 
 returns : tie.Need-returns
-returns c = search needs
+returns c = λ rest e.
+    let text = text-of _ _ _ _ _ _ _ _ (c .before .before .before .before .before .track-text .ensures .0 rest e) in
+    record { only = λ t. sym text ∙ c .same .ensures .0 t; where-so = λ q. c .same .ensures .1 (text ∙ q) }
 
 pub is-told-spec : {M : Type 1} → statement M
 is-told-spec =
