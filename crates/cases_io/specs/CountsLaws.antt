@@ -1,4 +1,4 @@
--- Laws of the counts: one element more of a sum that goes round; settings are found the same exactly where they are equal. Assumes nothing.
+-- Laws of the counts: one element more of a sum that goes round; settings are found the same exactly where they are equal.
 use mathlib.Core.Bool.{Bool, true, false, _&&_}
 use mathlib.Core.List.{List}
 use mathlib.Core.Path.{_≡_, refl, sym, ap, ap₂, _∙_}

@@ -1,5 +1,5 @@
 -- Cases of the definitions, by computation: the refusals of a record, in their order.
--- Assumes nothing.
+--
 use mathlib.Core.Path.{_≡_, refl}
 use mathlib.Core.List.{[], _∷_, map}
 use lib.ListN.{replicate}

@@ -1,5 +1,5 @@
 -- Laws of a record's text: the refusal's number by cases, what a record that is not refused has, its text, and the whole outcome.
--- Assumes nothing.
+--
 use mathlib.Core.Path.{_≡_, refl, sym}
 use mathlib.Core.Bool.{Bool, true, false, cond}
 use mathlib.Core.List.{List}

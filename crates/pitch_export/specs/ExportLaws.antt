@@ -1,5 +1,5 @@
 -- Laws of the exported frame call: it follows from the frame call's outcome, and its number is the refusal's.
--- Assumes nothing.
+--
 use mathlib.Core.Path.{_≡_, refl, sym, ap}
 use mathlib.Core.Bool.{Bool, true, false, cond}
 use mathlib.Core.List.{List}

@@ -1,5 +1,5 @@
 -- Laws of an input's bytes: what follows the bytes of a number or of the settings does not change them, how many samples there are, and where they are loaded; and how large the settings' number is.
--- Assumes nothing.
+--
 use mathlib.Core.Path.{_≡_, sym, ap, _∙_}
 use mathlib.Core.Bool.{Bool, true, false, cond}
 use mathlib.Core.List.{List, _++_}

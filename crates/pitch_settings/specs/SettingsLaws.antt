@@ -1,5 +1,5 @@
 -- What accepted settings say: the rate, the subframe count, the complexity, and bounds on the sizes.
--- Assumes nothing.
+--
 use mathlib.Core.Path.{_≡_, refl, sym, ap, _∙_}
 use mathlib.Core.Bool.{Bool, true, false, _||_, cond}
 use mathlib.Core.Logic.{_⊎_, inl, inr, ⊎-elim}

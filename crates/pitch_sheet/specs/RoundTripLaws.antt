@@ -1,5 +1,5 @@
 -- The round trips and the sizes hold.
--- Assumes nothing.
+--
 use mathlib.Core.Path.{_≡_, refl, sym, ap, ap₂, _∙_}
 use mathlib.Core.Bool.{Bool, true, false}
 use mathlib.Core.List.{List, [], _∷_, _++_, append-assoc}

@@ -1,5 +1,5 @@
 -- Cases of the definitions, by computation: numbers in decimal, and the row's line of document 01's example.
--- Assumes nothing.
+--
 use mathlib.Core.Path.{_≡_, refl}
 use mathlib.Core.List.{[], _∷_, map}
 use lib.Dec.{lit<}

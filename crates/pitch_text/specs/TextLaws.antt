@@ -1,5 +1,5 @@
 -- Laws of text: one part after another (the laws of `Put`, passed on), one field more, and how long a number is.
--- Assumes nothing.
+--
 use mathlib.Core.Path.{_≡_, refl, sym, ap, ap₂, _∙_}
 use mathlib.Core.List.{List, [], _∷_, _++_, append-assoc, append-nil}
 use Prim.Native.Nat.{ℕ, zero, suc, _+_, _≤_, _<_}

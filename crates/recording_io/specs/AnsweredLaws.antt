@@ -1,4 +1,4 @@
--- The count and the test of the code say what the answer of a read says. Assumes nothing.
+-- The count and the test of the code say what the answer of a read says.
 use mathlib.Core.Bool.{Bool}
 use mathlib.Core.Path.{_≡_, ap₂, _∙_}
 use Prim.Native.Nat.{ℕ}

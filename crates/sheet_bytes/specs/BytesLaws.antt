@@ -1,5 +1,5 @@
 -- Laws of little-endian numbers: bytes and number are each other's inverse, and the steps by which the code takes them apart and puts them together.
--- Assumes nothing.
+--
 use mathlib.Core.Path.{_≡_, refl, sym, ap, ap₂, _∙_}
 use mathlib.Core.List.{List, [], _∷_, _++_}
 use Prim.Native.Nat.{ℕ, zero, suc, _+_, _-_, _*_, _/_, _%_, _^_, _≤_, _<_}

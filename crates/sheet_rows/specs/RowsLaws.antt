@@ -1,5 +1,5 @@
 -- Laws of the rows that a sheet can hold: the definitions by their tests, and what is known of such a row.
--- Assumes nothing.
+--
 use mathlib.Core.Path.{_≡_, refl, sym, ap, _∙_}
 use mathlib.Core.Bool.{Bool, true, false, _&&_, _||_, cond, false≢true}
 use mathlib.Core.Logic.{_⊎_, inl, inr}

@@ -1,5 +1,5 @@
 -- Laws of a sheet's bytes: sections grow row by row, lengths, and writing one run of bytes after another.
--- Assumes nothing.
+--
 use mathlib.Core.Path.{_≡_, refl, sym, ap, _∙_}
 use mathlib.Core.Bool.{Bool, true, false, cond}
 use mathlib.Core.List.{List, [], _∷_, _++_, append-assoc, append-nil}

@@ -1,5 +1,5 @@
 -- Cases of the definition, by computation: no byte, a sheet with no frame, one with a voiced frame, and that with a byte after its end.
--- Assumes nothing.
+--
 use mathlib.Core.Path.{_≡_, refl}
 use mathlib.Core.List.{List, [], _∷_, _++_, map}
 use Prim.Native.Nat.{ℕ}

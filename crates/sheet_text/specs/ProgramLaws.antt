@@ -1,5 +1,5 @@
 -- Laws of the program's text: a page that is longer than the longest sheet is none, what a reading finds is what the text tells, and the whole outcome.
--- Assumes nothing.
+--
 use mathlib.Core.Path.{_≡_, refl, ap, _∙_}
 use mathlib.Core.Bool.{Bool, true, false}
 use mathlib.Core.List.{List, [], _∷_, _++_, append-nil}

@@ -1,5 +1,5 @@
 -- Cases of the definition, by computation: a half input, refused settings, and the sheet of an input with no frame.
--- Assumes nothing.
+--
 use mathlib.Core.Path.{_≡_, refl}
 use mathlib.Core.List.{[], _∷_, map}
 use lib.ListN.{replicate}

@@ -1,5 +1,5 @@
 -- Laws of the written bytes: a refusal, a sheet, what a started, fed and written track leaves, and that a track of at most 1,024 frames is written on 8,228 bytes.
--- Assumes nothing.
+--
 use mathlib.Core.Path.{_≡_, refl, ap, _∙_}
 use mathlib.Core.Bool.{Bool, true, false, cond}
 use mathlib.Core.List.{List, [], _∷_, _++_}

@@ -1,5 +1,5 @@
 -- Laws of a frame: its verdict's pair is one that the index code carries, what the stages are handed, and the answers in numbers.
--- Assumes nothing.
+--
 use mathlib.Core.Path.{_≡_, refl, sym, ap, _∙_, subst}
 use mathlib.Core.Bool.{Bool, true, false, cond}
 use mathlib.Core.List.{List, [], _∷_}

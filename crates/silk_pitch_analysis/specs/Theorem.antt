@@ -1,5 +1,5 @@
 -- Each verdict of a frame comes exactly where `Meaning` says (`verdict-exactly`): the verdict has its meaning (`verdict-means`), and no other verdict has its own (`one-meaning`).
--- Assumes nothing.
+--
 use mathlib.Core.Path.{_≡_, refl, sym, ap, _∙_, subst}
 use mathlib.Core.Bool.{Bool, true, false, cond}
 use mathlib.Core.List.{List}

@@ -1,5 +1,5 @@
 -- Every verdict's pair is carried: its index is at most the greatest of its rate, and its contour is one in use.
--- Assumes nothing.
+--
 use mathlib.Core.Path.{_≡_, refl, sym, ap, _∙_, subst}
 use mathlib.Core.Bool.{Bool, true, false, cond}
 use mathlib.Core.List.{List}

@@ -1,5 +1,5 @@
 -- Laws of the decimator by two thirds: the source's steps, one turn of each loop, the widths of what they hold, the buffer, lengths, and the frame alone.
--- Assumes nothing.
+--
 use mathlib.Core.Path.{_≡_, refl, sym, ap, ap₂, _∙_}
 use mathlib.Core.Bool.{Bool, true, false, cond}
 use mathlib.Core.List.{List, [], _∷_, _++_}

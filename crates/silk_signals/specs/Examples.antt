@@ -1,5 +1,5 @@
 -- A frame of 16 samples at the loudest, as the Rust scales it: the energy keeps 29 bits at a shift of 6, so the samples shift right by 3.
--- Assumes nothing.
+--
 use mathlib.Core.Path.{_≡_, refl}
 use lib.Count.{leadingZeros}
 use lib.IntN.{negsuc}

@@ -1,5 +1,5 @@
 -- Laws of the signals at 8 and 4 kHz: their lengths, one turn of the two-tap sum, and buffers that hold them.
--- Assumes nothing.
+--
 use mathlib.Core.Path.{_≡_, refl, sym, ap, ap₂, _∙_}
 use mathlib.Core.Bool.{Bool, cond}
 use mathlib.Core.List.{List, _++_}

@@ -1,5 +1,5 @@
 -- Laws of stage 1's correlations and scores, and what the functions that compute them say to one another.
--- Assumes nothing.
+--
 use mathlib.Core.Path.{_≡_, refl, sym, ap, ap₂, _∙_}
 use mathlib.Core.Bool.{Bool, true, false, cond, true≢false}
 use mathlib.Core.List.{List}

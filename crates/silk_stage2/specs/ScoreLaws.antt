@@ -1,5 +1,5 @@
 -- Laws of stage 2's numbers: sums over the subframes, sizes by which every step fits, and the best contour.
--- Assumes nothing.
+--
 use mathlib.Core.Path.{_≡_, refl, sym, ap, ap₂, _∙_}
 use mathlib.Core.Bool.{Bool, true, false, _&&_, cond}
 use mathlib.Core.List.{List}

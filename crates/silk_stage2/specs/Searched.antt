@@ -1,5 +1,5 @@
 -- The search from the front, as the code goes: what one lag more makes of it, and what is known after n lags. Nothing here is part of what stage 2 means.
--- Assumes nothing.
+--
 use mathlib.Core.Path.{_≡_, refl, sym, ap, ap₂, _∙_, subst, subst₂}
 use mathlib.Core.Bool.{Bool, true, false, _&&_, cond}
 use mathlib.Core.List.{List, []}

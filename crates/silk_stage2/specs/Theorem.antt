@@ -1,6 +1,6 @@
 -- Stage 2's answer has the meaning that `Meaning` gives it in words (`stage2-means`), and no other answer has (`stage2-only`): so each answer is given exactly where its words
 -- hold (`stage2-exactly`). With it the winner's range, and that of the lag that stage 3 starts from.
--- Assumes nothing.
+--
 use mathlib.Core.Path.{_≡_, refl, sym, ap, ap₂, _∙_, subst}
 use mathlib.Core.Bool.{Bool, true, false, _&&_, cond, false≢true}
 use mathlib.Core.List.{List}

@@ -1,5 +1,5 @@
 -- Stage 3's answer in document 01's numbers has the verdict and the values that its definitions say.
--- Assumes nothing.
+--
 use mathlib.Core.Path.{_≡_, refl, ap, _∙_}
 use mathlib.Core.Bool.{Bool, true, false, cond}
 use mathlib.Core.List.{List}

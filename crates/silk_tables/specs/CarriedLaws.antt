@@ -1,5 +1,5 @@
 -- What accepted settings and a carried pair say, the two tests from such facts, and the answer by its tests.
--- Assumes nothing.
+--
 use mathlib.Core.Path.{_≡_, refl, ap, ap₂, subst}
 use mathlib.Core.List.{[], _∷_}
 use mathlib.Core.Bool.{Bool, true, false, _&&_, _||_, cond}

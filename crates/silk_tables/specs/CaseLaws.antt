@@ -1,5 +1,5 @@
 -- The rebuilt lags of every case in the table are the lags that stand there, by computing them.
--- Assumes nothing.
+--
 use mathlib.Core.Path.{_≡_, refl}
 use mathlib.Core.List.{map}
 use Rattle.zint.specs.Clamp.{clamp}

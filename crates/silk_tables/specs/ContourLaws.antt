@@ -1,5 +1,5 @@
 -- Laws of the contours in use, the greatest index and the codebooks: which each rate chooses, and their bounds.
--- Assumes nothing.
+--
 use mathlib.Core.Path.{_≡_, refl, ap}
 use mathlib.Core.Bool.{Bool, true, false, cond}
 use mathlib.Core.List.{[], _∷_}

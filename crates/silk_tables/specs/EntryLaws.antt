@@ -1,6 +1,6 @@
 -- Bounds of a table's entries, by one computed test over the table; past the table's end 0 is read, so the bounds hold at every row and column. And what the code reads
 -- of an entry.
--- Assumes nothing.
+--
 use mathlib.Core.Path.{_≡_, refl}
 use mathlib.Core.Bool.{Bool, true, _&&_}
 use mathlib.Core.List.{List, [], _∷_}

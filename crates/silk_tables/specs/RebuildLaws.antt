@@ -1,5 +1,5 @@
 -- Laws of the rebuilding: the bounds of a lag, and that the source's own assembly is the rebuilding.
--- Assumes nothing.
+--
 use mathlib.Core.Path.{_≡_, refl, sym, ap}
 use mathlib.Core.Bool.{Bool, true, false}
 use Prim.Native.Nat.{ℕ, _+_, _-_, _*_, _≤_}

@@ -1,5 +1,5 @@
 -- The bounds of stage 2's offsets, tested once over each table, and the tables and counts that the settings choose.
--- Assumes nothing.
+--
 use mathlib.Core.Path.{_≡_, refl, sym, ap, _∙_}
 use mathlib.Core.Bool.{Bool, true, false, _&&_, cond, and-false}
 use mathlib.Core.List.{[]}

@@ -1,5 +1,5 @@
 -- Laws of a subframe's row: a ratio way by way, the divisor from running energies, one lag more, and the row at the marks of the kept lags.
--- Assumes nothing.
+--
 use mathlib.Core.Path.{_≡_, refl, sym, ap, ap₂, _∙_}
 use mathlib.Core.Bool.{Bool, true, false, _&&_, _||_, cond, or-true, or-false, true≢false}
 use mathlib.Core.List.{List}

@@ -1,5 +1,5 @@
 -- What the functions of a subframe answer, over any marks: a ratio, a lag's correlation, and the row of the lags 14 to 145. Nothing here is part of what stage 2 means.
--- Assumes nothing.
+--
 use mathlib.Core.Bool.{Bool, false, _&&_, cond}
 use mathlib.Core.List.{List}
 use Prim.Native.Nat.{ℕ, _+_, _-_}

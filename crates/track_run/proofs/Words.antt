@@ -1,5 +1,5 @@
 -- Each finished row says what `specs/Words` states: from the theorem of the frame, at the row's own samples and what the row before it left.
--- Assumes nothing.
+--
 use mathlib.Core.Path.{_≡_, refl, ap, _∙_}
 use mathlib.Core.Bool.{Bool, true, false, cond}
 use mathlib.Core.List.{List, _∷_}

@@ -1,5 +1,5 @@
 -- Writing accepts what every chain of deliveries leaves.
--- Assumes nothing.
+--
 use mathlib.Core.Path.{_≡_, refl, sym, ap, _∙_}
 use mathlib.Core.Bool.{Bool, true, false, cond}
 use mathlib.Core.List.{List, [], _∷_, _++_}

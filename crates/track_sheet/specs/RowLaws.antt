@@ -1,5 +1,5 @@
 -- Every row of a whole frame is one that a sheet can hold, and its correlation has 32 bits.
--- Assumes nothing.
+--
 use mathlib.Core.Path.{_≡_, refl}
 use mathlib.Core.Bool.{Bool, true, false, cond}
 use mathlib.Core.List.{List}

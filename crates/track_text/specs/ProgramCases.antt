@@ -1,5 +1,5 @@
 -- Cases of the definitions, by computation: samples left, the refusals in their order, inputs with no frame, and what they leave of longer lists.
--- Assumes nothing.
+--
 use mathlib.Core.Path.{_≡_, refl}
 use mathlib.Core.List.{List, [], _∷_, _++_, map}
 use Prim.Native.Nat.{ℕ}

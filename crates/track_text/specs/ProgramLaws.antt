@@ -1,5 +1,5 @@
 -- Laws of the program's text: the settings and samples of an input's first bytes, the limit of 1,024 frames, the refusal's number, the whole outcome, and the rows of a fresh track.
--- Assumes nothing.
+--
 use mathlib.Core.Path.{_≡_, refl, sym, ap, _∙_, subst}
 use mathlib.Core.Bool.{Bool, true, false, _||_, cond}
 use mathlib.Core.List.{List, [], _∷_, _++_, append-nil}

@@ -1,4 +1,4 @@
--- `cases_frames::samples_of` meets its contract: settings that are not refused have at most 640 samples. Assumes nothing.
+-- `cases_frames::samples_of` meets its contract: settings that are not refused have at most 640 samples.
 use mathlib.Core.Path.{_≡_}
 use native.Mathlib.Omega.{arith}
 use Rattle.pitch_settings.specs.Settings.{settings-no}

@@ -1,4 +1,4 @@
--- `cases_io::byte_at` meets its contract. Assumes nothing.
+-- `cases_io::byte_at` meets its contract.
 use mathlib.Core.Path.{sym}
 use native.Mathlib.Omega.{arith}
 use borrow.Author.Needs.{needs}

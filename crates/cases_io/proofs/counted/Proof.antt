@@ -1,4 +1,4 @@
--- `cases_io::counted` meets its contract. Assumes nothing.
+-- `cases_io::counted` meets its contract.
 use mathlib.Core.Path.{ap, sym, _∙_}
 use mathlib.Core.Bool.{Bool, cond}
 use borrow.Author.Needs.{needs}

@@ -1,4 +1,4 @@
--- `cases_io::i16_at` meets its contract. Assumes nothing.
+-- `cases_io::i16_at` meets its contract.
 use mathlib.Core.Path.{ap}
 use native.Mathlib.Omega.{arith}
 use lib.IntN.{pos}

@@ -1,4 +1,4 @@
--- `cases_io::load_i16s` meets its contract. The invariant: out is filled below i, and as it was from there on. Assumes nothing.
+-- `cases_io::load_i16s` meets its contract. The invariant: out is filled below i, and as it was from there on.
 use mathlib.Core.Path.{_≡_, ap, _∙_}
 use Prim.Native.Nat.{ℕ, _+_, _*_, _≤_, _-_}
 use native.Mathlib.Omega.{arith}
@@ -20,32 +20,8 @@ Inv-loop bytes at out₀ from i₀ i-end out i =
 abbrev μ-loop : tie.MeasureT-loop
 μ-loop bytes at out₀ from i₀ i-end out i = length out₀ - i
 
-skip-requires : tie.Need-skip-requires Inv-loop μ-loop
-skip-requires c κs = search zneeds
-
 loop-holds : tie.Need-loop-holds Inv-loop μ-loop
 loop-holds c = (search zneeds, (search zneeds, filled-none _ _))
-
-mul-i16-at : tie.Need-mul-i16-at Inv-loop μ-loop
-mul-i16-at c = search zneeds
-
-add-i16-at : tie.Need-add-i16-at Inv-loop μ-loop
-add-i16-at c = search zneeds
-
-i16-at-requires : tie.Need-i16-at-requires Inv-loop μ-loop
-i16-at-requires c κs = search zneeds
-
-mul-t11 : tie.Need-mul-t11 Inv-loop μ-loop
-mul-t11 c = search zneeds
-
-slice-set-from-out : tie.Need-slice-set-from-out Inv-loop μ-loop
-slice-set-from-out c = search zneeds
-
-add-i : tie.Need-add-i Inv-loop μ-loop
-add-i c = search zneeds
-
-loop-less : tie.Need-loop-less Inv-loop μ-loop
-loop-less c = search zneeds
 
 loop-again : tie.Need-loop-again Inv-loop μ-loop
 loop-again c =
@@ -62,9 +38,6 @@ loop-again c =
       ),
     )
 
-same-length : tie.Need-same-length Inv-loop μ-loop
-same-length c = search zneeds
-
 returns : tie.Need-returns Inv-loop μ-loop
 returns c =
     let s = c .before in
@@ -75,18 +48,5 @@ returns c =
 pub load-i16s-spec : {M : Type 1} → statement M
 load-i16s-spec =
     tie.close
-    (tie.spec
-    Inv-loop
-    μ-loop
-    skip-requires
-    loop-holds
-    mul-i16-at
-    add-i16-at
-    i16-at-requires
-    mul-t11
-    slice-set-from-out
-    add-i
-    loop-less
-    loop-again
-    same-length
-    returns)
+    (tie.spec Inv-loop μ-loop (λ c κs. search zneeds) loop-holds (λ c. search zneeds) (λ c. search zneeds) (λ c κs. search zneeds)
+    (λ c. search zneeds) (λ c. search zneeds) (λ c. search zneeds) (λ c. search zneeds) loop-again (λ c. search zneeds) returns)

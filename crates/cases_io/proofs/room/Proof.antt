@@ -1,4 +1,4 @@
--- `cases_io::room` meets its contract: as many zeros as asked for. Assumes nothing.
+-- `cases_io::room` meets its contract: as many zeros as asked for.
 use mathlib.Core.Path.{sym}
 use Prim.Native.Nat.{ℕ}
 use lib.ListN.{length-replicate}

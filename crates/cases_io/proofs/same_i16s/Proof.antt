@@ -1,4 +1,4 @@
--- `cases_io::same_i16s` meets its contract. The invariant: the first i agree. Assumes nothing.
+-- `cases_io::same_i16s` meets its contract. The invariant: the first i agree.
 use mathlib.Core.Bool.{true}
 use mathlib.Core.Path.{_≡_, sym, ap, _∙_}
 use Prim.Native.Nat.{ℕ, _+_, _*_, _≤_, _-_}
@@ -29,26 +29,8 @@ module _ (c : tie.After-i16-at Inv-loop μ-loop) where
       let a = s .before .before .before .args in
       c .i16-at .ensures ∙ held (pos 0) (i16-at (a .bytes .now)) (length (a .bytes .now)) (i16-past (a .bytes .now)) (k .result) (a .at) (2 * s .loop .i) (k .ensures)
 
-skip-requires : tie.Need-skip-requires Inv-loop μ-loop
-skip-requires c κs = search zneeds
-
 loop-holds : tie.Need-loop-holds Inv-loop μ-loop
 loop-holds c = (search zneeds, agree-none _ _)
-
-mul-if1 : tie.Need-mul-if1 Inv-loop μ-loop
-mul-if1 c = search zneeds
-
-shared-slice-copy-out-if1 : tie.Need-shared-slice-copy-out-if1 Inv-loop μ-loop
-shared-slice-copy-out-if1 c = search zneeds
-
-mul-i16-at : tie.Need-mul-i16-at Inv-loop μ-loop
-mul-i16-at c = search zneeds
-
-add-i16-at : tie.Need-add-i16-at Inv-loop μ-loop
-add-i16-at c = search zneeds
-
-i16-at-requires : tie.Need-i16-at-requires Inv-loop μ-loop
-i16-at-requires c κs = search zneeds
 
 returns : tie.Need-returns Inv-loop μ-loop
 returns c =
@@ -56,12 +38,6 @@ returns c =
     let s = k .before .before .before in
     let a = s .before .before .before .args in
     sym (agree-not (λ (j : ℕ). i16-at (a .bytes .now) (a .at + 2 * j)) (a .xs .now) (s .loop .i) (length (a .xs .now)) (omega arith) (λ e. c .if1 .taken (ap (ofZ w16) (e ∙ sym (there k)))))
-
-add-i : tie.Need-add-i Inv-loop μ-loop
-add-i c = search zneeds
-
-loop-less : tie.Need-loop-less Inv-loop μ-loop
-loop-less c = search zneeds
 
 loop-again : tie.Need-loop-again Inv-loop μ-loop
 loop-again c =
@@ -82,18 +58,5 @@ returns-2 c =
 pub same-i16s-spec : {M : Type 1} → statement M
 same-i16s-spec =
     tie.close
-    (tie.spec
-    Inv-loop
-    μ-loop
-    skip-requires
-    loop-holds
-    mul-if1
-    shared-slice-copy-out-if1
-    mul-i16-at
-    add-i16-at
-    i16-at-requires
-    returns
-    add-i
-    loop-less
-    loop-again
-    returns-2)
+    (tie.spec Inv-loop μ-loop (λ c κs. search zneeds) loop-holds (λ c. search zneeds) (λ c. search zneeds) (λ c. search zneeds) (λ c. search zneeds)
+    (λ c κs. search zneeds) returns (λ c. search zneeds) (λ c. search zneeds) loop-again returns-2)

@@ -1,4 +1,4 @@
--- `cases_io::same_settings` meets its contract: each `&&` of the code is one of the definition. Assumes nothing.
+-- `cases_io::same_settings` meets its contract: each `&&` of the code is one of the definition.
 use mathlib.Core.Path.{_≡_, refl, sym, _∙_}
 use mathlib.Core.Bool.{Bool, _&&_}
 use mathlib.Core.Logic.{⊎-elim}

@@ -1,4 +1,4 @@
--- `cases_io::settings_at` meets its contract: the place that was read is held to the end. Assumes nothing.
+-- `cases_io::settings_at` meets its contract: the place that was read is held to the end.
 use mathlib.Core.Path.{_≡_, _∙_}
 use Prim.Native.Nat.{ℕ, _+_}
 use native.Mathlib.Numerals.{unary-clauses}
@@ -11,36 +11,6 @@ use Rattle.cases_io.specs.Little.{u64-at, i32-at}
 use Rattle.cases_io.specs.LittleLaws.{u64-past, i32-past, held}
 use Rattle.cases_io.proofs.settings_at.Statement.{statement}
 use Rattle.cases_io.proofs.settings_at.Tie as tie
-
-skip-requires : tie.Need-skip-requires
-skip-requires c κs = search needs
-
-usize-at-requires : tie.Need-usize-at-requires
-usize-at-requires c κs = search needs
-
-add-usize-at : tie.Need-add-usize-at
-add-usize-at c = search needs
-
-usize-at-requires-2 : tie.Need-usize-at-requires-2
-usize-at-requires-2 c κs = search needs
-
-add-usize-at-2 : tie.Need-add-usize-at-2
-add-usize-at-2 c = search needs
-
-usize-at-requires-3 : tie.Need-usize-at-requires-3
-usize-at-requires-3 c κs = search needs
-
-add-i32-at : tie.Need-add-i32-at
-add-i32-at c = search needs
-
-i32-at-requires : tie.Need-i32-at-requires
-i32-at-requires c κs = search needs
-
-add-i32-at-2 : tie.Need-add-i32-at-2
-add-i32-at-2 c = search needs
-
-i32-at-requires-2 : tie.Need-i32-at-requires-2
-i32-at-requires-2 c κs = search needs
 
 returns : tie.Need-returns
 returns c =
@@ -59,15 +29,5 @@ returns c =
 pub settings-at-spec : {M : Type 1} → statement M
 settings-at-spec =
     tie.close
-    (tie.spec
-    skip-requires
-    usize-at-requires
-    add-usize-at
-    usize-at-requires-2
-    add-usize-at-2
-    usize-at-requires-3
-    add-i32-at
-    i32-at-requires
-    add-i32-at-2
-    i32-at-requires-2
-    returns)
+    (tie.spec (λ c κs. search needs) (λ c κs. search needs) (λ c. search needs) (λ c κs. search needs) (λ c. search needs) (λ c κs. search needs)
+    (λ c. search needs) (λ c κs. search needs) (λ c. search needs) (λ c κs. search needs) returns)

@@ -1,4 +1,4 @@
--- `cases_io::usize_at` meets its contract. Assumes nothing.
+-- `cases_io::usize_at` meets its contract.
 use mathlib.Core.Path.{sym, ap₂}
 use Prim.Native.Nat.{ℕ, _+_, _*_}
 use native.Mathlib.Omega.{arith}

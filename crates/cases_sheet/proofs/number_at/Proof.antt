@@ -1,4 +1,4 @@
--- `cases_sheet::number_at` meets its contract: a remainder is below its divisor. Assumes nothing.
+-- `cases_sheet::number_at` meets its contract: a remainder is below its divisor.
 use Prim.Native.Nat.{_<_}
 use native.Mathlib.Nat.{mod-lt}
 use native.Mathlib.Omega.{arith}

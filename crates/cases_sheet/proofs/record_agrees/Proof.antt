@@ -1,4 +1,4 @@
--- `cases_sheet::record_agrees` meets its contract: the record fits the body, and the part that was lent comes back as long as it went. Assumes nothing.
+-- `cases_sheet::record_agrees` meets its contract: the record fits the body, and the part that was lent comes back as long as it went.
 use mathlib.Core.Path.{_≡_, sym, _∙_}
 use mathlib.Core.List.{_++_}
 use Prim.Native.Nat.{ℕ, _+_, _*_}
@@ -17,12 +17,6 @@ size c = 4 * c .before .before .before .before .args .c .numbers + c .before .be
 whole : (c : tie.After-read-full) → length (c .read-full .last .1 .0 ++ drop (size c) (replicate 164200 0)) ≡ 164200
 whole c = length-front (replicate 164200 0) (c .read-full .last .1 .0) (size c) (c .read-full .kept .1 .0) ∙ length-replicate {0} {A = ℕ} 164200 0
 
-returns : tie.Need-returns
-returns c = search needs
-
-mul-size : tie.Need-mul-size
-mul-size c = search needs
-
 add-size : tie.Need-add-size
 add-size c = omega (arith, ltb-false)
 
@@ -31,12 +25,6 @@ array-borrow-prefix-body c = omega (arith, ltb-false)
 
 slice-aggregate-read-full : tie.Need-slice-aggregate-read-full
 slice-aggregate-read-full c = sym (length-take-le _ _ (omega (arith, ltb-false)))
-
-read-full-requires : tie.Need-read-full-requires
-read-full-requires c κs = search needs
-
-returns-2 : tie.Need-returns-2
-returns-2 c = search needs
 
 slice-aggregate-case-agrees : tie.Need-slice-aggregate-case-agrees
 slice-aggregate-case-agrees c = sym (whole (c .before .before .before))
@@ -52,14 +40,5 @@ returns-3 c = search needs
 pub record-agrees-spec : {M : Type 1} → statement M
 record-agrees-spec =
     tie.close
-    (tie.spec
-    returns
-    mul-size
-    add-size
-    array-borrow-prefix-body
-    slice-aggregate-read-full
-    read-full-requires
-    returns-2
-    slice-aggregate-case-agrees
-    case-agrees-requires
-    returns-3)
+    (tie.spec (λ c. search needs) (λ c. search needs) add-size array-borrow-prefix-body slice-aggregate-read-full (λ c κs. search needs)
+    (λ c. search needs) slice-aggregate-case-agrees case-agrees-requires returns-3)

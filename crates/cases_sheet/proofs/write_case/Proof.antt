@@ -1,4 +1,4 @@
--- `cases_sheet::write_case` meets its contract: the parts that are lent are within the table and the page. Assumes nothing.
+-- `cases_sheet::write_case` meets its contract: the parts that are lent are within the table and the page.
 use mathlib.Core.Path.{sym}
 use native.Mathlib.Omega.{arith}
 use borrow.Author.Tests.{ltb-false}
@@ -7,23 +7,11 @@ use borrow.Author.Needs.{needs}
 use Rattle.cases_sheet.proofs.write_case.Statement.{statement}
 use Rattle.cases_sheet.proofs.write_case.Tie as tie
 
-returns : tie.Need-returns
-returns c = search needs
-
-array-borrow-prefix-table : tie.Need-array-borrow-prefix-table
-array-borrow-prefix-table c = search needs
-
 slice-aggregate-written-agrees : tie.Need-slice-aggregate-written-agrees
 slice-aggregate-written-agrees c = sym (length-take-le _ _ (omega arith))
 
-array-borrow-prefix-page : tie.Need-array-borrow-prefix-page
-array-borrow-prefix-page c = search needs
-
 slice-aggregate-written-agrees-2 : tie.Need-slice-aggregate-written-agrees-2
 slice-aggregate-written-agrees-2 c = sym (length-take-le _ _ (omega (arith, ltb-false)))
-
-written-agrees-requires : tie.Need-written-agrees-requires
-written-agrees-requires c κs = search needs
 
 returns-2 : tie.Need-returns-2
 returns-2 c = search needs
@@ -31,11 +19,5 @@ returns-2 c = search needs
 pub write-case-spec : {M : Type 1} → statement M
 write-case-spec =
     tie.close
-    (tie.spec
-    returns
-    array-borrow-prefix-table
-    slice-aggregate-written-agrees
-    array-borrow-prefix-page
-    slice-aggregate-written-agrees-2
-    written-agrees-requires
-    returns-2)
+    (tie.spec (λ c. search needs) (λ c. search needs) slice-aggregate-written-agrees (λ c. search needs) slice-aggregate-written-agrees-2
+    (λ c κs. search needs) returns-2)

@@ -1,4 +1,4 @@
--- `cases_sigproc::padded` meets its contract: the part that was lent comes back as long as it went. Assumes nothing.
+-- `cases_sigproc::padded` meets its contract: the part that was lent comes back as long as it went.
 use mathlib.Core.Path.{sym}
 use native.Mathlib.Omega.{arith}
 use borrow.Author.Needs.{needs}

@@ -1,4 +1,4 @@
--- `cases_track::record_agrees` meets its contract: the body fits the room, and the part that was lent comes back as long as it went. Assumes nothing.
+-- `cases_track::record_agrees` meets its contract: the body fits the room, and the part that was lent comes back as long as it went.
 use mathlib.Core.Path.{_≡_, sym, _∙_}
 use mathlib.Core.List.{_++_}
 use native.Mathlib.Omega.{arith}
@@ -12,20 +12,8 @@ use Rattle.cases_track.proofs.record_agrees.Tie as tie
 whole : (r : tie.After-read-full) → 1048576 ≡ length (r .read-full .last .1 .0 ++ drop (r .before .before .before .args .size) (r .before .before .room .result))
 whole r = r .before .before .room .ensures ∙ sym (length-front (r .before .before .room .result) (r .read-full .last .1 .0) (r .before .before .before .args .size) (r .read-full .kept .1 .0))
 
-room-requires : tie.Need-room-requires
-room-requires c κs = search needs
-
-array-borrow-prefix-body : tie.Need-array-borrow-prefix-body
-array-borrow-prefix-body c = search needs
-
 slice-aggregate-read-full : tie.Need-slice-aggregate-read-full
 slice-aggregate-read-full c = sym (length-take-le _ _ (omega arith))
-
-read-full-requires : tie.Need-read-full-requires
-read-full-requires c κs = search needs
-
-returns : tie.Need-returns
-returns c = search needs
 
 slice-aggregate-agrees : tie.Need-slice-aggregate-agrees
 slice-aggregate-agrees c = whole (c .before .before .before .before)
@@ -33,14 +21,8 @@ slice-aggregate-agrees c = whole (c .before .before .before .before)
 agrees-requires : tie.Need-agrees-requires
 agrees-requires c κs = (whole (c .before .before .before .before), search needs)
 
-returns-2 : tie.Need-returns-2
-returns-2 c = search needs
-
 slice-aggregate-agrees-2 : tie.Need-slice-aggregate-agrees-2
 slice-aggregate-agrees-2 c = whole (c .before .before .before .before)
-
-agrees-requires-2 : tie.Need-agrees-requires-2
-agrees-requires-2 c κs = search needs
 
 returns-3 : tie.Need-returns-3
 returns-3 c = search needs
@@ -48,15 +30,5 @@ returns-3 c = search needs
 pub record-agrees-spec : {M : Type 1} → statement M
 record-agrees-spec =
     tie.close
-    (tie.spec
-    room-requires
-    array-borrow-prefix-body
-    slice-aggregate-read-full
-    read-full-requires
-    returns
-    slice-aggregate-agrees
-    agrees-requires
-    returns-2
-    slice-aggregate-agrees-2
-    agrees-requires-2
-    returns-3)
+    (tie.spec (λ c κs. search needs) (λ c. search needs) slice-aggregate-read-full (λ c κs. search needs) (λ c. search needs) slice-aggregate-agrees
+    agrees-requires (λ c. search needs) slice-aggregate-agrees-2 (λ c κs. search needs) returns-3)

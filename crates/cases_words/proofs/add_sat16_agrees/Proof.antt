@@ -1,4 +1,4 @@
--- `cases_words::add_sat16_agrees` meets what it calls. Assumes nothing.
+-- `cases_words::add_sat16_agrees` meets what it calls.
 use Rattle.zint.specs.Rules.{zneeds}
 use Rattle.cases_words.proofs.add_sat16_agrees.Statement.{statement}
 use Rattle.cases_words.proofs.add_sat16_agrees.Tie as tie

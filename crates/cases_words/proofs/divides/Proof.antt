@@ -1,4 +1,4 @@
--- `cases_words::divides` meets its contract. Assumes nothing.
+-- `cases_words::divides` meets its contract.
 use mathlib.Core.Bool.{true, false, not, false≢true}
 use mathlib.Core.Path.{_≡_, sym, ap, _∙_, subst}
 use borrow.Author.Tests.{eq-eqb}

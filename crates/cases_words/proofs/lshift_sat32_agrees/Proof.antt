@@ -1,4 +1,4 @@
--- `cases_words::lshift_sat32_agrees` meets what it calls. Assumes nothing.
+-- `cases_words::lshift_sat32_agrees` meets what it calls.
 use Rattle.zint.specs.Rules.{zneeds}
 use Rattle.zint.specs.Tests.{lt-false, le-false}
 use Rattle.cases_words.proofs.lshift_sat32_agrees.Statement.{statement}

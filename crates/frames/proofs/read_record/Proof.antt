@@ -1,4 +1,4 @@
--- `frames::read_record` meets its contract. Assumes nothing.
+-- `frames::read_record` meets its contract.
 use mathlib.Core.Path.{_≡_, sym, _∙_}
 use mathlib.Core.List.{_++_}
 use Prim.Native.Nat.{_+_, _≤_}
@@ -33,14 +33,8 @@ sum c =
     let r = c .before .before .before .before .before .record-length .ensures in
     omega (arith, c .before .before .before .read-input2 .ensures .0, c .before .before .before .read-input2 .kept .0, c .before .before .before .before .read-input-arg2 .given .1, r .1, r .2, head (c .before .before .before .before .before .before .before .before .before .before))
 
-slice-relend-prefix-read-input : tie.Need-slice-relend-prefix-read-input
-slice-relend-prefix-read-input c = search needs
-
 slice-aggregate-read-input : tie.Need-slice-aggregate-read-input
 slice-aggregate-read-input c = sym (length-take-le 19 (c .before .before .args .bytes .now) (omega (arith, c .before .before .pre)))
-
-read-input-requires : tie.Need-read-input-requires
-read-input-requires c κs = search needs
 
 same-length : tie.Need-same-length
 same-length c = whole (c .before .before .before)
@@ -66,9 +60,6 @@ part-read-input-start c = omega (arith, c .record-length .ensures .1, head (c .b
 part-read-input-end : tie.Need-part-read-input-end
 part-read-input-end c = omega (arith, c .record-length .ensures .2, whole (c .before .before .before .before .before), c .before .before .before .before .before .before .before .before .pre)
 
-read-input-requires-2 : tie.Need-read-input-requires-2
-read-input-requires-2 c κs = search needs
-
 add-t12 : tie.Need-add-t12
 add-t12 c = omega (arith, sum c)
 
@@ -81,19 +72,6 @@ returns-2 c = counts _ _ (omega (arith, sum c, c .before .before .bytes2 .given 
 pub read-record-spec : {M : Type 1} → statement M
 read-record-spec =
     tie.close
-    (tie.spec
-    slice-relend-prefix-read-input
-    slice-aggregate-read-input
-    read-input-requires
-    same-length
-    returns
-    slice-reshare-prefix-record-length
-    slice-aggregate-record-length
-    record-length-requires
-    sub-read-input
-    part-read-input-start
-    part-read-input-end
-    read-input-requires-2
-    add-t12
-    same-length-2
-    returns-2)
+    (tie.spec (λ c. search needs) slice-aggregate-read-input (λ c κs. search needs) same-length returns slice-reshare-prefix-record-length
+    slice-aggregate-record-length record-length-requires sub-read-input part-read-input-start part-read-input-end (λ c κs. search needs) add-t12
+    same-length-2 returns-2)

@@ -1,4 +1,4 @@
--- `frames_text::frame_text` meets its contract. Assumes nothing.
+-- `frames_text::frame_text` meets its contract.
 use borrow.Author.Needs.{needs}
 use mathlib.Core.Path.{_≡_, sym, ap, ap₂, _∙_}
 use mathlib.Core.List.{_++_}
@@ -127,12 +127,6 @@ module _ (c : tie.After-frame-row) where
       ∙ (λ i. row-answer (t i) (x i) (lag i) (correlation i))
       ∙ row-whole (settings-in (start .args .bytes .now)) (samples-from (start .args .bytes .now) 19 (frame-length (settings-in (start .args .bytes .now)))) _ _ (all (sized .before .before .before .before) .known) (length-samples _ 19 _)
 
-enum-known-answer : tie.Need-enum-known-answer
-enum-known-answer c = search needs
-
-enum-told : tie.Need-enum-told
-enum-told c = search needs
-
 -- the frame is never refused
 never : (c : tie.After-enum-told) → ⊥
 never c = no-refusal _ _ _ (said (c .before .before)) (c .enum-told .given .1)
@@ -171,27 +165,7 @@ returns-3 c =
 pub frame-text-spec : {M : Type 1} → statement M
 frame-text-spec =
     tie.close
-    (tie.spec
-    record-no-requires
-    cast-put-refused
-    put-refused-requires
-    same-length
-    returns
-    settings-in-requires
-    frame-length-requires
-    slice-relend-prefix-load-samples
-    slice-aggregate-load-samples
-    load-samples-requires
-    i32-at-requires
-    i32-at-requires-2
-    slice-reshare-prefix-frame-row
-    slice-aggregate-frame-row
-    frame-row-requires
-    enum-known-answer
-    enum-told
-    same-length-2
-    returns-2
-    put-row-text-requires
-    same-length-3
-    same-length-4
-    returns-3)
+    (tie.spec record-no-requires cast-put-refused put-refused-requires same-length returns settings-in-requires frame-length-requires
+    slice-relend-prefix-load-samples slice-aggregate-load-samples load-samples-requires i32-at-requires i32-at-requires-2
+    slice-reshare-prefix-frame-row slice-aggregate-frame-row frame-row-requires (λ c. search needs) (λ c. search needs) same-length-2 returns-2
+    put-row-text-requires same-length-3 same-length-4 returns-3)

@@ -1,4 +1,4 @@
--- `frames_text::record_no` meets its contract. Assumes nothing.
+-- `frames_text::record_no` meets its contract.
 use mathlib.Core.Path.{_≡_, sym, ap, _∙_}
 use native.Mathlib.Omega.{arith}
 use Rattle.pitch_settings.specs.Settings.{settings-no}
@@ -23,12 +23,6 @@ size c = c .record-size .ensures .0 ∙ ap record-size (c .before .before .befor
 returns : tie.Need-returns
 returns c = no-head (c .before .before .args .bytes .now) (c .if1 .taken)
 
-settings-in-requires : tie.Need-settings-in-requires
-settings-in-requires c κs = search needs
-
-settings-no-requires : tie.Need-settings-no-requires
-settings-no-requires c κs = search needs
-
 returns-2 : tie.Need-returns-2
 returns-2 c =
     no-wrong (c .before .before .before .before .before .args .bytes .now) (c .before .before .before .if1 .left) (c .before .settings-no .result) (number (c .before)) (c .if2 .taken)
@@ -47,11 +41,4 @@ returns-4 c =
 pub record-no-spec : {M : Type 1} → statement M
 record-no-spec =
     tie.close
-    (tie.spec
-    returns
-    settings-in-requires
-    settings-no-requires
-    returns-2
-    record-size-requires
-    returns-3
-    returns-4)
+    (tie.spec returns (λ c κs. search needs) (λ c κs. search needs) returns-2 record-size-requires returns-3 returns-4)

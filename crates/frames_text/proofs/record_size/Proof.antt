@@ -1,4 +1,4 @@
--- `frames_text::record_size` meets its contract. Assumes nothing.
+-- `frames_text::record_size` meets its contract.
 use mathlib.Core.Path.{_≡_}
 use Prim.Native.Nat.{_+_, _*_, _≤_}
 use native.Mathlib.Omega.{arith}

@@ -1,4 +1,4 @@
--- `pitch_export::pitch_frame` meets its contract. Assumes nothing.
+-- `pitch_export::pitch_frame` meets its contract.
 use mathlib.Core.Path.{_≡_, sym, ap, _∙_}
 use mathlib.Core.List.{List}
 use borrow.Author.Needs.{needs}

@@ -1,4 +1,4 @@
--- `pitch_export::put_verdict` meets its contract. Assumes nothing.
+-- `pitch_export::put_verdict` meets its contract.
 use mathlib.Core.Path.{_≡_, sym, ap, _∙_}
 use lib.IntN.{pos}
 use mir.Syntax.{w32}

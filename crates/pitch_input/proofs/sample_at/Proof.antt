@@ -1,4 +1,4 @@
--- `pitch_input::sample_at` meets its contract. Assumes nothing.
+-- `pitch_input::sample_at` meets its contract.
 use mathlib.Core.Path.{ap}
 use native.Mathlib.Omega.{arith}
 use lib.IntN.{pos}

@@ -1,5 +1,5 @@
 -- `pitch_settings::hop_length` meets its contract: with accepted settings nothing wraps.
--- Assumes nothing.
+--
 use Rattle.pitch_settings.specs.SettingsLaws.{accepted}
 use native.Mathlib.Omega.{arith}
 use mathlib.Core.Path.{refl}

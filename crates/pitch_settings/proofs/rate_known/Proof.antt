@@ -1,4 +1,4 @@
--- `pitch_settings::rate_known` meets its contract. Assumes nothing.
+-- `pitch_settings::rate_known` meets its contract.
 use borrow.Author.Tests.{eq-eqb, ne-eqb}
 use Rattle.pitch_settings.specs.Settings.{rate-known}
 use Rattle.pitch_settings.proofs.rate_known.Statement.{statement}

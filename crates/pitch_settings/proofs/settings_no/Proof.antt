@@ -1,4 +1,4 @@
--- `pitch_settings::settings_no` meets its contract: the tests say which case of `settings-no` holds. Assumes nothing.
+-- `pitch_settings::settings_no` meets its contract: the tests say which case of `settings-no` holds.
 use mathlib.Core.Path.{_≡_, sym, _∙_}
 use mathlib.Core.Bool.{true}
 use native.Mathlib.Omega.{arith}

@@ -1,4 +1,4 @@
--- `pitch_settings::subframes_known` meets its contract. Assumes nothing.
+-- `pitch_settings::subframes_known` meets its contract.
 use borrow.Author.Tests.{eq-eqb, ne-eqb}
 use Rattle.pitch_settings.specs.Settings.{subframes-known}
 use Rattle.pitch_settings.proofs.subframes_known.Statement.{statement}

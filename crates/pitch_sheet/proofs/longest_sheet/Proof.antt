@@ -1,4 +1,4 @@
--- `pitch_sheet::longest_sheet` meets its contract. Assumes nothing.
+-- `pitch_sheet::longest_sheet` meets its contract.
 use mathlib.Core.Path.{refl}
 use Rattle.sheet_sections.specs.Sheet.{sheet-length}
 use Rattle.pitch_sheet.proofs.longest_sheet.Statement.{statement}

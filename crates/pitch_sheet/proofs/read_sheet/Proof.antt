@@ -1,4 +1,4 @@
--- `pitch_sheet::read_sheet` meets its contract. Assumes nothing.
+-- `pitch_sheet::read_sheet` meets its contract.
 use mathlib.Core.Path.{_≡_, sym, ap, _∙_}
 use mathlib.Core.List.{_++_}
 use Prim.Native.Nat.{ℕ, _*_, _≤_}
@@ -42,9 +42,6 @@ put-rows-requires c κs =
     let p = c .before .before .before .before .before .before .args .page .now in
     (page-sheet p (sound (c .before .before .before)), c .before .before .head-of .ensures, omega (arith, c .before .if2 .left, frames-are (c .before .before)))
 
-same-length : tie.Need-same-length
-same-length c = search needs
-
 returns-3 : tie.Need-returns-3
 returns-3 c =
     let s = c .before .before .before .before .before .before .before .before .before in
@@ -60,11 +57,4 @@ returns-3 c =
 pub read-sheet-spec : {M : Type 1} → statement M
 read-sheet-spec =
     tie.close
-    (tie.spec
-    page-no-requires
-    returns
-    head-of-requires
-    returns-2
-    put-rows-requires
-    same-length
-    returns-3)
+    (tie.spec page-no-requires returns head-of-requires returns-2 put-rows-requires (λ c. search needs) returns-3)

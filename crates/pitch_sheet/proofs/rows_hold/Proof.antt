@@ -1,4 +1,4 @@
--- `pitch_sheet::rows_hold` meets its contract. Assumes nothing.
+-- `pitch_sheet::rows_hold` meets its contract.
 use mathlib.Core.Path.{_≡_, sym, ap, _∙_}
 use mathlib.Core.Bool.{Bool, true}
 use Prim.Native.Nat.{ℕ, _-_, _≤_, _<_}
@@ -36,12 +36,6 @@ returns c =
     let a = q .before .args in
     sym (hold-not (a .s) (a .table .now) (a .rows) (q .loop .i) (omega arith) (asked (c .before) (not-true (c .before .row-holds .result) (c .if1 .taken))))
 
-add-i : tie.Need-add-i Inv-loop μ-loop
-add-i c = search needs
-
-loop-less : tie.Need-loop-less Inv-loop μ-loop
-loop-less c = search needs
-
 loop-again : tie.Need-loop-again Inv-loop μ-loop
 loop-again c =
     let q = c .before .before .before .before in
@@ -57,14 +51,4 @@ returns-2 c =
 pub rows-hold-spec : {M : Type 1} → statement M
 rows-hold-spec =
     tie.close
-    (tie.spec
-    Inv-loop
-    μ-loop
-    loop-holds
-    get-row-requires
-    row-holds-requires
-    returns
-    add-i
-    loop-less
-    loop-again
-    returns-2)
+    (tie.spec Inv-loop μ-loop loop-holds get-row-requires row-holds-requires returns (λ c. search needs) (λ c. search needs) loop-again returns-2)

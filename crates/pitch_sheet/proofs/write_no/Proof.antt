@@ -1,4 +1,4 @@
--- `pitch_sheet::write_no` meets its contract. Assumes nothing.
+-- `pitch_sheet::write_no` meets its contract.
 use mathlib.Core.Path.{_≡_, sym, ap₂, _∙_}
 use Prim.Native.Nat.{min}
 use native.Mathlib.Omega.{arith}
@@ -86,16 +86,5 @@ returns-7 c =
 pub write-no-spec : {M : Type 1} → statement M
 write-no-spec =
     tie.close
-    (tie.spec
-    settings-no-requires
-    returns
-    returns-2
-    rows-hold-requires
-    returns-3
-    returns-4
-    rows-hold-requires-2
-    voiced-rows-requires
-    sheet-length-requires
-    returns-5
-    returns-6
-    returns-7)
+    (tie.spec settings-no-requires returns returns-2 rows-hold-requires returns-3 returns-4 rows-hold-requires-2 voiced-rows-requires
+    sheet-length-requires returns-5 returns-6 returns-7)

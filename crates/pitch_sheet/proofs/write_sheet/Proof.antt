@@ -1,4 +1,4 @@
--- `pitch_sheet::write_sheet` meets its contract. Assumes nothing.
+-- `pitch_sheet::write_sheet` meets its contract.
 use native.Mathlib.Omega.{arith}
 use Rattle.sheet_sections.specs.Sheet.{sheet, rows-of}
 use mathlib.Core.Path.{_≡_, sym, ap, _∙_}
@@ -30,9 +30,6 @@ voiced-rows-requires c κs = told c .whole
 put-sheet-requires : tie.Need-put-sheet-requires
 put-sheet-requires c κs = let k = told (c .before .before) in (k .settings, k .whole, k .few, k .rows, c .before .voiced-rows .ensures, k .fits)
 
-same-length : tie.Need-same-length
-same-length c = search needs
-
 returns-2 : tie.Need-returns-2
 returns-2 c =
     let a = c .before .before .before .before .before .before .before .before .args in
@@ -47,10 +44,4 @@ returns-2 c =
 pub write-sheet-spec : {M : Type 1} → statement M
 write-sheet-spec =
     tie.close
-    (tie.spec
-    write-no-requires
-    returns
-    voiced-rows-requires
-    put-sheet-requires
-    same-length
-    returns-2)
+    (tie.spec write-no-requires returns voiced-rows-requires put-sheet-requires (λ c. search needs) returns-2)

@@ -1,5 +1,5 @@
 -- `pitch_table::put_row` meets its contract: eight stores are one `sets`.
--- Assumes nothing.
+--
 use native.Mathlib.Numerals.{towards-suc}
 use mir.Syntax.{w32}
 use Rattle.zint.specs.Read.{r-elem}
@@ -9,74 +9,23 @@ use borrow.Author.Needs.{needs}
 use Rattle.pitch_table.proofs.put_row.Statement.{statement}
 use Rattle.pitch_table.proofs.put_row.Tie as tie
 
-mul-at : tie.Need-mul-at
-mul-at c = search needs
-
-mul-v : tie.Need-mul-v
-mul-v c = search needs
-
-slice-set-from-v : tie.Need-slice-set-from-v
-slice-set-from-v c = search needs
-
-add-v : tie.Need-add-v
-add-v c = search needs
-
-mul-v-2 : tie.Need-mul-v-2
-mul-v-2 c = search needs
-
 slice-set-from-v-2 : tie.Need-slice-set-from-v-2
 slice-set-from-v-2 c = simp length-set (omega arith)
-
-add-v-2 : tie.Need-add-v-2
-add-v-2 c = search needs
-
-mul-v-3 : tie.Need-mul-v-3
-mul-v-3 c = search needs
 
 slice-set-from-v-3 : tie.Need-slice-set-from-v-3
 slice-set-from-v-3 c = simp length-set (omega arith)
 
-add-v-3 : tie.Need-add-v-3
-add-v-3 c = search needs
-
-mul-v-4 : tie.Need-mul-v-4
-mul-v-4 c = search needs
-
 slice-set-from-v-4 : tie.Need-slice-set-from-v-4
 slice-set-from-v-4 c = simp length-set (omega arith)
-
-add-v-4 : tie.Need-add-v-4
-add-v-4 c = search needs
-
-mul-v-5 : tie.Need-mul-v-5
-mul-v-5 c = search needs
 
 slice-set-from-v-5 : tie.Need-slice-set-from-v-5
 slice-set-from-v-5 c = simp length-set (omega arith)
 
-add-v-5 : tie.Need-add-v-5
-add-v-5 c = search needs
-
-mul-v-6 : tie.Need-mul-v-6
-mul-v-6 c = search needs
-
 slice-set-from-v-6 : tie.Need-slice-set-from-v-6
 slice-set-from-v-6 c = simp length-set (omega arith)
 
-add-v-6 : tie.Need-add-v-6
-add-v-6 c = search needs
-
-mul-v-7 : tie.Need-mul-v-7
-mul-v-7 c = search needs
-
 slice-set-from-v-7 : tie.Need-slice-set-from-v-7
 slice-set-from-v-7 c = simp length-set (omega arith)
-
-add-v-7 : tie.Need-add-v-7
-add-v-7 c = search needs
-
-mul-v-8 : tie.Need-mul-v-8
-mul-v-8 c = search needs
 
 slice-set-from-v-8 : tie.Need-slice-set-from-v-8
 slice-set-from-v-8 c = simp length-set (omega arith)
@@ -90,30 +39,7 @@ returns c = let r = c .before .before .before .before .before .before .before .b
 pub put-row-spec : {M : Type 1} → statement M
 put-row-spec =
     tie.close
-    (tie.spec
-    mul-at
-    mul-v
-    slice-set-from-v
-    add-v
-    mul-v-2
-    slice-set-from-v-2
-    add-v-2
-    mul-v-3
-    slice-set-from-v-3
-    add-v-3
-    mul-v-4
-    slice-set-from-v-4
-    add-v-4
-    mul-v-5
-    slice-set-from-v-5
-    add-v-5
-    mul-v-6
-    slice-set-from-v-6
-    add-v-6
-    mul-v-7
-    slice-set-from-v-7
-    add-v-7
-    mul-v-8
-    slice-set-from-v-8
-    same-length
-    returns)
+    (tie.spec (λ c. search needs) (λ c. search needs) (λ c. search needs) (λ c. search needs) (λ c. search needs) slice-set-from-v-2
+    (λ c. search needs) (λ c. search needs) slice-set-from-v-3 (λ c. search needs) (λ c. search needs) slice-set-from-v-4 (λ c. search needs)
+    (λ c. search needs) slice-set-from-v-5 (λ c. search needs) (λ c. search needs) slice-set-from-v-6 (λ c. search needs) (λ c. search needs)
+    slice-set-from-v-7 (λ c. search needs) (λ c. search needs) slice-set-from-v-8 same-length returns)

@@ -1,4 +1,4 @@
--- `pitch_text::+put_digits` meets its contract. Assumes nothing.
+-- `pitch_text::+put_digits` meets its contract.
 use borrow.Author.Needs.{needs}
 use mathlib.Core.Path.{_≡_, refl, sym, ap, ap₂, _∙_}
 use mathlib.Core.List.{List, [], _∷_}

@@ -1,4 +1,4 @@
--- `pitch_text::letter` meets its contract. Assumes nothing.
+-- `pitch_text::letter` meets its contract.
 use mathlib.Core.Path.{_≡_, sym, ap, _∙_}
 use lib.IntN.{pos}
 use mir.Syntax.{w32}

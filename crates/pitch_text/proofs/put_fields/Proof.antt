@@ -1,4 +1,4 @@
--- `pitch_text::put_fields` meets its contract. Assumes nothing.
+-- `pitch_text::put_fields` meets its contract.
 use mathlib.Core.Path.{_≡_, refl, sym, ap, _∙_}
 use Prim.Native.Nat.{ℕ, _+_, _-_, _*_, _≤_}
 use native.Mathlib.Numerals.{add-one}
@@ -26,18 +26,6 @@ loop-holds : tie.Need-loop-holds Inv-loop μ-loop
 unfolding fields
 loop-holds c = (omega arith, refl, omega arith, put-none (c .before .args .out .now) (c .before .args .at))
 
-slice-write-out : tie.Need-slice-write-out Inv-loop μ-loop
-slice-write-out c = search needs
-
-add-put-number : tie.Need-add-put-number Inv-loop μ-loop
-add-put-number c = search needs
-
-mul-put-number : tie.Need-mul-put-number Inv-loop μ-loop
-mul-put-number c = search needs
-
-shared-slice-copy-out-put-number : tie.Need-shared-slice-copy-out-put-number Inv-loop μ-loop
-shared-slice-copy-out-put-number c = search needs
-
 -- the value that is written
 element : (c : tie.After-put-number-arg2 Inv-loop μ-loop) → Reads w32 (ofZ w32 (getD (c .before .before .before .before .before .args .values .now) (c .before .before .before .loop .k) (pos 0))) (getD (c .before .before .before .before .before .args .values .now) (c .before .before .before .loop .k) (pos 0))
 element c = r-elem w32 _ (c .put-number-arg2 .given)
@@ -46,12 +34,6 @@ put-number-requires : tie.Need-put-number-requires Inv-loop μ-loop
 put-number-requires c κs =
     let z = element c in
     rw (z .val, length-set) (omega (arith, decimal-few _ (z .fit), c .before .before .before .before .before .pre .1))
-
-add-k : tie.Need-add-k Inv-loop μ-loop
-add-k c = search needs
-
-loop-less : tie.Need-loop-less Inv-loop μ-loop
-loop-less c = search needs
 
 loop-again : tie.Need-loop-again Inv-loop μ-loop
 loop-again c =
@@ -79,17 +61,5 @@ returns c =
 pub put-fields-spec : {M : Type 1} → statement M
 put-fields-spec =
     tie.close
-    (tie.spec
-    Inv-loop
-    μ-loop
-    loop-holds
-    slice-write-out
-    add-put-number
-    mul-put-number
-    shared-slice-copy-out-put-number
-    put-number-requires
-    add-k
-    loop-less
-    loop-again
-    same-length
-    returns)
+    (tie.spec Inv-loop μ-loop loop-holds (λ c. search needs) (λ c. search needs) (λ c. search needs) (λ c. search needs) put-number-requires
+    (λ c. search needs) (λ c. search needs) loop-again same-length returns)

@@ -1,4 +1,4 @@
--- `pitch_text::put_line` meets its contract. Assumes nothing.
+-- `pitch_text::put_line` meets its contract.
 use mathlib.Core.Path.{_≡_, _∙_}
 use Prim.Native.Nat.{_+_, _≤_}
 use native.Mathlib.Omega.{arith}
@@ -48,10 +48,4 @@ returns c =
 pub put-line-spec : {M : Type 1} → statement M
 put-line-spec =
     tie.close
-    (tie.spec
-    put-digits-requires
-    slice-write-out
-    add-put-row-text
-    put-row-text-requires
-    same-length
-    returns)
+    (tie.spec put-digits-requires slice-write-out add-put-row-text put-row-text-requires same-length returns)

@@ -1,4 +1,4 @@
--- `pitch_text::put_number` meets its contract: the sign, then the digits of the size. Assumes nothing.
+-- `pitch_text::put_number` meets its contract: the sign, then the digits of the size.
 use mathlib.Core.Path.{_≡_, sym, ap, _∙_}
 use mathlib.Core.List.{_∷_}
 use Prim.Native.Nat.{ℕ}
@@ -27,18 +27,9 @@ size-2 c = c .abs-u322 .ensures ∙ ap natAbs (r-var (c .before .before .before 
 slice-write-out : tie.Need-slice-write-out
 slice-write-out c = omega (arith, ap length (minus c), c .before .before .pre)
 
-add-put-digits : tie.Need-add-put-digits
-add-put-digits c = search needs
-
-abs-u32-requires : tie.Need-abs-u32-requires
-abs-u32-requires c κs = search needs
-
 put-digits-requires : tie.Need-put-digits-requires
 put-digits-requires c κs =
     rw (size c, length-set) (omega (arith, ap length (minus (c .before .before)), c .before .before .before .before .pre))
-
-abs-u32-requires-2 : tie.Need-abs-u32-requires-2
-abs-u32-requires-2 c κs = search needs
 
 put-digits-requires-2 : tie.Need-put-digits-requires-2
 put-digits-requires-2 c κs = rw (size-2 c) (omega (arith, ap length (plus (c .before .before)), c .before .before .before .before .pre))
@@ -53,9 +44,6 @@ returns c =
     let p = put-byte (a .out .now) (a .at) 45 in
     put-as (put-then p (c .before .before .put-digits .ensures)) (ap (λ (k : ℕ). 45 ∷ digits k) (size d) ∙ sym (minus (d .before .before)))
 
-same-length-2 : tie.Need-same-length-2
-same-length-2 c = search needs
-
 returns-2 : tie.Need-returns-2
 returns-2 c =
     let d = c .before .before .before in
@@ -64,14 +52,5 @@ returns-2 c =
 pub put-number-spec : {M : Type 1} → statement M
 put-number-spec =
     tie.close
-    (tie.spec
-    slice-write-out
-    add-put-digits
-    abs-u32-requires
-    put-digits-requires
-    abs-u32-requires-2
-    put-digits-requires-2
-    same-length
-    returns
-    same-length-2
-    returns-2)
+    (tie.spec slice-write-out (λ c. search needs) (λ c κs. search needs) put-digits-requires (λ c κs. search needs) put-digits-requires-2 same-length
+    returns (λ c. search needs) returns-2)

@@ -1,4 +1,4 @@
--- `pitch_text::put_refused` meets its contract. Assumes nothing.
+-- `pitch_text::put_refused` meets its contract.
 use mathlib.Core.Path.{_≡_, refl, _∙_}
 use mathlib.Core.List.{List, [], _∷_}
 use Prim.Native.Nat.{ℕ, _+_, _≤_}
@@ -35,53 +35,26 @@ word b at =
     let p = put-next (at + 7) 32 p (omega arith) in
     put-end p (omega arith)
 
-slice-write-out : tie.Need-slice-write-out
-slice-write-out c = search needs
-
-add-out : tie.Need-add-out
-add-out c = search needs
-
 slice-write-out-2 : tie.Need-slice-write-out-2
 slice-write-out-2 c = simp length-set (omega arith)
-
-add-out-2 : tie.Need-add-out-2
-add-out-2 c = search needs
 
 slice-write-out-3 : tie.Need-slice-write-out-3
 slice-write-out-3 c = simp length-set (omega arith)
 
-add-out-3 : tie.Need-add-out-3
-add-out-3 c = search needs
-
 slice-write-out-4 : tie.Need-slice-write-out-4
 slice-write-out-4 c = simp length-set (omega arith)
-
-add-out-4 : tie.Need-add-out-4
-add-out-4 c = search needs
 
 slice-write-out-5 : tie.Need-slice-write-out-5
 slice-write-out-5 c = simp length-set (omega arith)
 
-add-out-5 : tie.Need-add-out-5
-add-out-5 c = search needs
-
 slice-write-out-6 : tie.Need-slice-write-out-6
 slice-write-out-6 c = simp length-set (omega arith)
-
-add-out-6 : tie.Need-add-out-6
-add-out-6 c = search needs
 
 slice-write-out-7 : tie.Need-slice-write-out-7
 slice-write-out-7 c = simp length-set (omega arith)
 
-add-out-7 : tie.Need-add-out-7
-add-out-7 c = search needs
-
 slice-write-out-8 : tie.Need-slice-write-out-8
 slice-write-out-8 c = simp length-set (omega arith)
-
-add-put-digits : tie.Need-add-put-digits
-add-put-digits c = search needs
 
 put-digits-requires : tie.Need-put-digits-requires
 put-digits-requires c κs = simp length-set (omega (arith, few (c .before .before), c .before .before .pre))
@@ -105,25 +78,6 @@ returns c =
 pub put-refused-spec : {M : Type 1} → statement M
 put-refused-spec =
     tie.close
-    (tie.spec
-    slice-write-out
-    add-out
-    slice-write-out-2
-    add-out-2
-    slice-write-out-3
-    add-out-3
-    slice-write-out-4
-    add-out-4
-    slice-write-out-5
-    add-out-5
-    slice-write-out-6
-    add-out-6
-    slice-write-out-7
-    add-out-7
-    slice-write-out-8
-    add-put-digits
-    put-digits-requires
-    slice-write-out-9
-    add-result
-    same-length
-    returns)
+    (tie.spec (λ c. search needs) (λ c. search needs) slice-write-out-2 (λ c. search needs) slice-write-out-3 (λ c. search needs) slice-write-out-4
+    (λ c. search needs) slice-write-out-5 (λ c. search needs) slice-write-out-6 (λ c. search needs) slice-write-out-7 (λ c. search needs)
+    slice-write-out-8 (λ c. search needs) put-digits-requires slice-write-out-9 add-result same-length returns)

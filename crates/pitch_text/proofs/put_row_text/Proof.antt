@@ -1,4 +1,4 @@
--- `pitch_text::put_row_text` meets its contract. Assumes nothing.
+-- `pitch_text::put_row_text` meets its contract.
 use mathlib.Core.Path.{_≡_, ap, ap₂, _∙_}
 use mathlib.Core.List.{List, [], _∷_, _++_}
 use Prim.Native.Nat.{ℕ, _+_}
@@ -18,24 +18,6 @@ use Rattle.pitch_text.proofs.put_row_text.Tie as tie
 size : (c : tie.After-struct-told) → length (c .before .row-values .result) ≡ 7
 size c = ap length (c .before .row-values .ensures) ∙ length-values _
 
-row-values-requires : tie.Need-row-values-requires
-row-values-requires c κs = search needs
-
-letter-requires : tie.Need-letter-requires
-letter-requires c κs = search needs
-
-slice-write-out : tie.Need-slice-write-out
-slice-write-out c = search needs
-
-add-put-fields : tie.Need-add-put-fields
-add-put-fields c = search needs
-
-slice-aggregate-put-fields : tie.Need-slice-aggregate-put-fields
-slice-aggregate-put-fields c = search needs
-
-add-put-fields-2 : tie.Need-add-put-fields-2
-add-put-fields-2 c = search needs
-
 put-fields-requires : tie.Need-put-fields-requires
 put-fields-requires c κs =
     let s = c .before .before .before .before .before .before in
@@ -45,9 +27,6 @@ slice-write-out-2 : tie.Need-slice-write-out-2
 slice-write-out-2 c =
     let f = c .before .before .put-fields in
     omega (arith, f .kept .0, length-set (c .before .before .before .before .before .before .before .before .before .args .out .now) (c .before .before .before .before .before .before .before .before .before .args .at) (c .before .before .before .before .before .letter .result), f .ensures .1, c .before .before .before .before .before .before .before .before .before .pre)
-
-add-result : tie.Need-add-result
-add-result c = search needs
 
 same-length : tie.Need-same-length
 same-length c = simp length-set (c .before .before .put-fields .kept .0 ∙ simp length-set)
@@ -68,15 +47,5 @@ returns c =
 pub put-row-text-spec : {M : Type 1} → statement M
 put-row-text-spec =
     tie.close
-    (tie.spec
-    row-values-requires
-    letter-requires
-    slice-write-out
-    add-put-fields
-    slice-aggregate-put-fields
-    add-put-fields-2
-    put-fields-requires
-    slice-write-out-2
-    add-result
-    same-length
-    returns)
+    (tie.spec (λ c κs. search needs) (λ c κs. search needs) (λ c. search needs) (λ c. search needs) (λ c. search needs) (λ c. search needs)
+    put-fields-requires slice-write-out-2 (λ c. search needs) same-length returns)

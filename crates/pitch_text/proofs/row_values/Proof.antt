@@ -1,4 +1,4 @@
--- `pitch_text::row_values` meets its contract. Assumes nothing.
+-- `pitch_text::row_values` meets its contract.
 use mir.Syntax.{w32}
 use Rattle.zint.specs.Read.{r-elem}
 use Rattle.pitch_text.specs.Text.{values-of}

@@ -1,4 +1,4 @@
--- `pitch_track::first_no` meets its contract. Assumes nothing.
+-- `pitch_track::first_no` meets its contract.
 use mathlib.Core.Path.{_≡_, refl}
 use mathlib.Core.Bool.{Bool, true, false, cond, _&&_}
 use Prim.Native.Nat.{ℕ}

@@ -1,5 +1,5 @@
 -- `pitch_track::frames_in` meets its contract: the test says which case of `framesIn` holds.
--- Assumes nothing.
+--
 use native.Mathlib.Omega.{arith}
 use native.Mathlib.Nat.{div-le-self}
 use Prim.Native.Nat.{_-_, _≤_, _<_}

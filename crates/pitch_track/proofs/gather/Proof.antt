@@ -1,5 +1,5 @@
 -- `pitch_track::gather` meets its contract. The invariant: j elements of the part are laid over the zeros.
--- Assumes nothing.
+--
 use native.Mathlib.Numerals.{add-one}
 use borrow.Author.Needs.{needs}
 use mathlib.Core.Path.{_≡_, refl, sym, ap, _∙_}
@@ -70,15 +70,4 @@ returns c =
 pub gather-spec : {M : Type 1} → statement M
 gather-spec =
     tie.close
-    (tie.spec
-    Inv-loop
-    μ-loop
-    loop-holds
-    add-sample-at
-    sample-at-requires
-    mul-out
-    array-set-from-out
-    add-j
-    loop-less
-    loop-again
-    returns)
+    (tie.spec Inv-loop μ-loop loop-holds add-sample-at sample-at-requires mul-out array-set-from-out add-j loop-less loop-again returns)

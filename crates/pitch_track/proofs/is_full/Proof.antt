@@ -1,4 +1,4 @@
--- `pitch_track::is_full` meets its contract. Assumes nothing.
+-- `pitch_track::is_full` meets its contract.
 use mathlib.Core.Path.{sym}
 use native.Mathlib.Omega.{arith}
 use borrow.Author.Needs.{needs}

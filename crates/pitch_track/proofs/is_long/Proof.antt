@@ -1,5 +1,5 @@
 -- `pitch_track::is_long` meets its contract: counts that are over the limit by themselves, and else the frames in all samples.
--- Assumes nothing.
+--
 use mathlib.Core.Path.{_≡_, sym}
 use Prim.Native.Nat.{_+_}
 use native.Mathlib.Omega.{arith}

@@ -1,4 +1,4 @@
--- `pitch_track::is_short` meets its contract. Assumes nothing.
+-- `pitch_track::is_short` meets its contract.
 use mathlib.Core.Path.{sym}
 use Prim.Native.Nat.{_/_}
 use native.Mathlib.Omega.{arith}

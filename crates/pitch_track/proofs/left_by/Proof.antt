@@ -1,5 +1,5 @@
 -- `pitch_track::left_by` meets its contract: the test says which case of `after` holds.
--- Assumes nothing.
+--
 use borrow.Author.Tests.{eq-eqb, ne-eqb}
 use Rattle.pitch_track.specs.Paper.{after}
 use mir.Syntax.{w32}

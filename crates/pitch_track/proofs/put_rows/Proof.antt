@@ -1,5 +1,5 @@
 -- `pitch_track::put_rows` meets its contract. The invariant: k rows are written, and `q` is what the last of them left.
--- Assumes nothing.
+--
 use native.Mathlib.Numerals.{add-one}
 use native.Mathlib.Nat.{suc-mul}
 use lib.Seq.{sets}
@@ -52,12 +52,6 @@ loop-holds c =
 window-row-requires : tie.Need-window-row-requires Inv-loop μ-loop
 window-row-requires c κs = (c .before .before .before .pre .0, c .before .before .before .pre .1, omega (arith, inside c))
 
-enum-known-answer : tie.Need-enum-known-answer Inv-loop μ-loop
-enum-known-answer c = search needs
-
-enum-told : tie.Need-enum-told Inv-loop μ-loop
-enum-told c = search needs
-
 -- the frame is never refused
 never : (c : tie.After-enum-told Inv-loop μ-loop) → ⊥
 never c = no-refusal _ _ _ (c .before .before .window-row .ensures) (c .enum-told .given .1)
@@ -101,9 +95,6 @@ add-put-row c = omega (arith, start c .good, room c, here c .loop-test .taken)
 
 put-row-requires : tie.Need-put-row-requires Inv-loop μ-loop
 put-row-requires c κs = omega (arith, size c, room c, here c .loop-test .taken)
-
-left-by-requires : tie.Need-left-by-requires Inv-loop μ-loop
-left-by-requires c κs = search needs
 
 add-from : tie.Need-add-from Inv-loop μ-loop
 add-from c =
@@ -149,22 +140,5 @@ returns-2 c =
 pub put-rows-spec : {M : Type 1} → statement M
 put-rows-spec =
     tie.close
-    (tie.spec
-    Inv-loop
-    μ-loop
-    hop-length-requires
-    loop-holds
-    window-row-requires
-    enum-known-answer
-    enum-told
-    same-length
-    returns
-    add-put-row
-    put-row-requires
-    left-by-requires
-    add-from
-    add-k
-    loop-less
-    loop-again
-    same-length-2
-    returns-2)
+    (tie.spec Inv-loop μ-loop hop-length-requires loop-holds window-row-requires (λ c. search needs) (λ c. search needs) same-length returns
+    add-put-row put-row-requires (λ c κs. search needs) add-from add-k loop-less loop-again same-length-2 returns-2)

@@ -1,5 +1,5 @@
 -- `pitch_track::refusal` meets its contract: a law of `Refusals` for each `return`.
--- Assumes nothing.
+--
 use mathlib.Core.Path.{_≡_, sym, ap, _∙_}
 use mathlib.Core.Bool.{false}
 use Prim.Native.Nat.{ℕ, _+_, _*_, _/_, _≤_, _<_}
@@ -17,12 +17,6 @@ use borrow.Author.Needs.{needs}
 use Rattle.pitch_track.proofs.refusal.Statement.{statement}
 use Rattle.pitch_track.proofs.refusal.Tie as tie
 
-settings-no-requires : tie.Need-settings-no-requires
-settings-no-requires c κs = search needs
-
-first-no-requires : tie.Need-first-no-requires
-first-no-requires c κs = search needs
-
 returns : tie.Need-returns
 returns c =
     let a = c .before .before .before .args in
@@ -35,14 +29,8 @@ returns c =
 ok : (c : tie.After-is-full) → settings-no (c .before .before .before .args .s) ≡ 0
 ok c = sym (c .before .before .settings-no .ensures) ∙ c .before .if1 .left
 
-is-full-requires : tie.Need-is-full-requires
-is-full-requires c κs = search needs
-
 is-long-requires : tie.Need-is-long-requires
 is-long-requires c κs = (ok c, c .before .before .before .pre)
-
-first-no-requires-2 : tie.Need-first-no-requires-2
-first-no-requires-2 c κs = search needs
 
 returns-2 : tie.Need-returns-2
 returns-2 c =
@@ -83,12 +71,6 @@ new c = cc
 add-is-short : tie.Need-add-is-short
 add-is-short c = omega (arith, fits (c .before .before .before), new c)
 
-is-short-requires : tie.Need-is-short-requires
-is-short-requires c κs = search needs
-
-first-no-requires-3 : tie.Need-first-no-requires-3
-first-no-requires-3 c κs = search needs
-
 returns-3 : tie.Need-returns-3
 returns-3 c =
     let p = c .before .before in
@@ -102,19 +84,5 @@ returns-3 c =
 pub refusal-spec : {M : Type 1} → statement M
 refusal-spec =
     tie.close
-    (tie.spec
-    settings-no-requires
-    first-no-requires
-    returns
-    is-full-requires
-    is-long-requires
-    first-no-requires-2
-    returns-2
-    frame-length-requires
-    hop-length-requires
-    add-frames-in
-    frames-in-requires
-    add-is-short
-    is-short-requires
-    first-no-requires-3
-    returns-3)
+    (tie.spec (λ c κs. search needs) (λ c κs. search needs) returns (λ c κs. search needs) is-long-requires (λ c κs. search needs) returns-2
+    frame-length-requires hop-length-requires add-frames-in frames-in-requires add-is-short (λ c κs. search needs) (λ c κs. search needs) returns-3)

@@ -1,5 +1,5 @@
 -- `pitch_track::sample_at` meets its contract: the test says on which side of the seam the place lies.
--- Assumes nothing.
+--
 use mathlib.Core.Path.{sym, _∙_}
 use Prim.Native.Nat.{_-_}
 use lib.IntN.{pos}
@@ -11,20 +11,8 @@ use borrow.Author.Needs.{needs}
 use Rattle.pitch_track.proofs.sample_at.Statement.{statement}
 use Rattle.pitch_track.proofs.sample_at.Tie as tie
 
-mul-result : tie.Need-mul-result
-mul-result c = search needs
-
-shared-slice-copy-out-result : tie.Need-shared-slice-copy-out-result
-shared-slice-copy-out-result c = search needs
-
 returns : tie.Need-returns
 returns c = let a = c .before .before .args in r-elem w16 (getD (a .held .now) (a .p) (pos 0)) (c .result .given) .val ∙ sym (at-held (a .held .now) (a .samples .now) (a .count) (c .before .before .pre .0) (a .p) (pos 0) (c .before .if1 .taken))
-
-mul-result-2 : tie.Need-mul-result-2
-mul-result-2 c = search needs
-
-shared-slice-copy-out-result-2 : tie.Need-shared-slice-copy-out-result-2
-shared-slice-copy-out-result-2 c = search needs
 
 returns-2 : tie.Need-returns-2
 returns-2 c = let a = c .before .before .args in r-elem w16 (getD (a .samples .now) (a .p - a .count) (pos 0)) (c .result2 .given) .val ∙ sym (at-new (a .held .now) (a .samples .now) (a .count) (c .before .before .pre .0) (a .p) (pos 0) (c .before .if1 .left))
@@ -32,10 +20,4 @@ returns-2 c = let a = c .before .before .args in r-elem w16 (getD (a .samples .n
 pub sample-at-spec : {M : Type 1} → statement M
 sample-at-spec =
     tie.close
-    (tie.spec
-    mul-result
-    shared-slice-copy-out-result
-    returns
-    mul-result-2
-    shared-slice-copy-out-result-2
-    returns-2)
+    (tie.spec (λ c. search needs) (λ c. search needs) returns (λ c. search needs) (λ c. search needs) returns-2)

@@ -1,5 +1,5 @@
 -- `pitch_track::window_row` meets its contract: the front of what was gathered is the frame.
--- Assumes nothing.
+--
 use mathlib.Core.Path.{_≡_, refl, sym, ap, _∙_}
 use mathlib.Core.List.{List, _++_}
 use Prim.Native.Nat.{ℕ, _+_, _≤_}
@@ -39,9 +39,6 @@ module _ (g : tie.After-gather) where
   front : take len (g .gather .result) ≡ window
   front = ap (take len) (g .gather .ensures) ∙ padded-front window len whole
 
-frame-length-requires : tie.Need-frame-length-requires
-frame-length-requires c κs = search needs
-
 gather-requires : tie.Need-gather-requires
 gather-requires c κs = let z = accepted _ (c .before .pre .0) in omega arith
 
@@ -53,9 +50,6 @@ array-share-prefix-buffer c =
 
 slice-aggregate-frame-row : tie.Need-slice-aggregate-frame-row
 slice-aggregate-frame-row c = let g = c .before .before .before in sym (ap length (front g) ∙ whole g)
-
-frame-row-requires : tie.Need-frame-row-requires
-frame-row-requires c κs = search needs
 
 returns : tie.Need-returns
 returns c =
@@ -73,10 +67,4 @@ returns c =
 pub window-row-spec : {M : Type 1} → statement M
 window-row-spec =
     tie.close
-    (tie.spec
-    frame-length-requires
-    gather-requires
-    array-share-prefix-buffer
-    slice-aggregate-frame-row
-    frame-row-requires
-    returns)
+    (tie.spec (λ c κs. search needs) gather-requires array-share-prefix-buffer slice-aggregate-frame-row (λ c κs. search needs) returns)

@@ -1,4 +1,4 @@
--- `recording_io::read_whole` meets its contract. Assumes nothing.
+-- `recording_io::read_whole` meets its contract.
 use borrow.Author.Needs.{needs}
 use Rattle.recording_io.proofs.read_whole.Statement.{statement}
 use Rattle.recording_io.proofs.read_whole.Tie as tie

@@ -1,4 +1,4 @@
--- `recording_io::taken` meets its contract: count and test are those of the definition. Assumes nothing.
+-- `recording_io::taken` meets its contract: count and test are those of the definition.
 use borrow.Author.Needs.{needs}
 use mathlib.Core.Path.{refl, ap, _∙_}
 use lib.IntN.{ℤ}

@@ -1,4 +1,4 @@
--- `sheet_bytes::i32_at` meets its contract. Assumes nothing.
+-- `sheet_bytes::i32_at` meets its contract.
 use mathlib.Core.Path.{ap, _∙_}
 use Prim.Native.Nat.{ℕ, _<_}
 use native.Mathlib.Omega.{arith}

@@ -1,4 +1,4 @@
--- `sheet_bytes::put_i32` meets its contract. Assumes nothing.
+-- `sheet_bytes::put_i32` meets its contract.
 use Rattle.zint.specs.Read.{r-var}
 use mathlib.Core.Path.{ap, _∙_}
 use Prim.Native.Nat.{ℕ}

@@ -1,4 +1,4 @@
--- `sheet_bytes::put_u32` meets its contract. Assumes nothing.
+-- `sheet_bytes::put_u32` meets its contract.
 use mathlib.Core.Path.{ap, _∙_}
 use mathlib.Core.List.{List}
 use Prim.Native.Nat.{ℕ, _+_, _/_}
@@ -8,24 +8,6 @@ use Rattle.sheet_bytes.specs.BytesLaws.{put-4}
 use borrow.Author.Needs.{needs}
 use Rattle.sheet_bytes.proofs.put_u32.Statement.{statement}
 use Rattle.sheet_bytes.proofs.put_u32.Tie as tie
-
-cast-put-u16 : tie.Need-cast-put-u16
-cast-put-u16 c = search needs
-
-put-u16-requires : tie.Need-put-u16-requires
-put-u16-requires c κs = search needs
-
-add-put-u16 : tie.Need-add-put-u16
-add-put-u16 c = search needs
-
-cast-put-u16-2 : tie.Need-cast-put-u16-2
-cast-put-u16-2 c = search needs
-
-put-u16-requires-2 : tie.Need-put-u16-requires-2
-put-u16-requires-2 c κs = search needs
-
-same-length : tie.Need-same-length
-same-length c = search needs
 
 returns : tie.Need-returns
 returns c =
@@ -37,11 +19,4 @@ returns c =
 pub put-u32-spec : {M : Type 1} → statement M
 put-u32-spec =
     tie.close
-    (tie.spec
-    cast-put-u16
-    put-u16-requires
-    add-put-u16
-    cast-put-u16-2
-    put-u16-requires-2
-    same-length
-    returns)
+    (tie.spec (λ c. search needs) (λ c κs. search needs) (λ c. search needs) (λ c. search needs) (λ c κs. search needs) (λ c. search needs) returns)

@@ -1,4 +1,4 @@
--- `sheet_bytes::word_of` meets its contract. Assumes nothing.
+-- `sheet_bytes::word_of` meets its contract.
 use mathlib.Core.Path.{_≡_, ap, _∙_}
 use lib.IntN.{ℤ, pos, natAbs, _+ℤ_}
 use mir.Syntax.{w32, w64}

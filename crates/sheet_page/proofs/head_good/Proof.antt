@@ -1,4 +1,4 @@
--- `sheet_page::head_good` meets its contract. Assumes nothing.
+-- `sheet_page::head_good` meets its contract.
 use mathlib.Core.Path.{_≡_, sym, ap, _∙_}
 use Prim.Native.Nat.{ℕ}
 use borrow.Author.Tests.{le-leb, lt-leb, eq-eqb, ne-eqb}
@@ -18,17 +18,11 @@ returns : tie.Need-returns
 unfolding head-good
 returns c = rw (lt-leb 28 (length (c .before .before .args .page .now)) (c .if1 .taken))
 
-u32-at-requires : tie.Need-u32-at-requires
-u32-at-requires c κs = search needs
-
 returns-2 : tie.Need-returns-2
 unfolding head-good
 returns-2 c =
     let p = c .before .before .before .before .args .page .now in
     rw (le-leb 28 (length p) (c .before .before .if1 .left), ne-eqb (number-at 4 p 0) 5 (λ e. c .if2 .taken (c .before .u32-at .ensures ∙ e)))
-
-settings-at-requires : tie.Need-settings-at-requires
-settings-at-requires c κs = search needs
 
 settings-no-requires : tie.Need-settings-no-requires
 settings-no-requires c κs = tt
@@ -38,9 +32,6 @@ unfolding head-good
 returns-3 c =
     let p = c .before .before .before .before .before .before .before .args .page .now in
     rw (le-leb 28 (length p) (c .before .before .before .before .before .if1 .left), eq-eqb (number-at 4 p 0) 5 (sym (c .before .before .before .before .u32-at .ensures) ∙ c .before .before .before .if2 .left), ne-eqb (settings-no (settings-in p)) 0 (λ e. c .if3 .taken (settled (c .before) ∙ e)))
-
-u32-at-requires-2 : tie.Need-u32-at-requires-2
-u32-at-requires-2 c κs = search needs
 
 returns-4 : tie.Need-returns-4
 unfolding head-good frames-in
@@ -53,12 +44,4 @@ returns-4 c =
 pub head-good-spec : {M : Type 1} → statement M
 head-good-spec =
     tie.close
-    (tie.spec
-    returns
-    u32-at-requires
-    returns-2
-    settings-at-requires
-    settings-no-requires
-    returns-3
-    u32-at-requires-2
-    returns-4)
+    (tie.spec returns (λ c κs. search needs) returns-2 (λ c κs. search needs) settings-no-requires returns-3 (λ c κs. search needs) returns-4)

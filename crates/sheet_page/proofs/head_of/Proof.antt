@@ -1,4 +1,4 @@
--- `sheet_page::head_of` meets its contract. Assumes nothing.
+-- `sheet_page::head_of` meets its contract.
 use mathlib.Core.Path.{ap, _∙_}
 use native.Mathlib.Omega.{arith}
 use Rattle.sheet_sections.specs.Sheet.{sheet-length}

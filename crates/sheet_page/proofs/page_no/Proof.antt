@@ -1,4 +1,4 @@
--- `sheet_page::page_no` meets its contract. Assumes nothing.
+-- `sheet_page::page_no` meets its contract.
 use mathlib.Core.Path.{_≡_, sym, _∙_}
 use mathlib.Core.Bool.{true}
 use Rattle.sheet_page.specs.Page.{head-good, sizes-good, well-formed, page-no}
@@ -38,11 +38,4 @@ returns-3 c = rw (sym (c .before .head-good .ensures) ∙ c .if1 .left)
 pub page-no-spec : {M : Type 1} → statement M
 page-no-spec =
     tie.close
-    (tie.spec
-    head-good-requires
-    sizes-good-requires
-    head-of-requires
-    rows-no-requires
-    returns
-    returns-2
-    returns-3)
+    (tie.spec head-good-requires sizes-good-requires head-of-requires rows-no-requires returns returns-2 returns-3)

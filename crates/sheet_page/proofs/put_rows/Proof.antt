@@ -1,4 +1,4 @@
--- `sheet_page::put_rows` meets its contract. Assumes nothing.
+-- `sheet_page::put_rows` meets its contract.
 use mathlib.Core.Path.{_≡_, sym, ap, _∙_}
 use mathlib.Core.Logic.{⊎-elim}
 use Prim.Native.Nat.{ℕ, _+_, _-_, _≤_}
@@ -36,12 +36,6 @@ loop-holds c = (omega arith, sym (voiced-none (c .before .args .page .now)), put
 read-row-requires : tie.Need-read-row-requires Inv-loop μ-loop
 read-row-requires c κs = let s = c .before .before .before in let g = good-tests (s .args .page .now) (s .pre .0) in (g .0, g .1, s .pre .1, omega (arith, frames-are s), c .before .loop .inv .1)
 
-enum-known-r : tie.Need-enum-known-r Inv-loop μ-loop
-enum-known-r c = search needs
-
-enum-told : tie.Need-enum-told Inv-loop μ-loop
-enum-told c = search needs
-
 same-length : tie.Need-same-length Inv-loop μ-loop
 same-length c = long (c .before .before .before .before)
 
@@ -59,9 +53,6 @@ add-seen c = let q = c .before .before .before .before .before .before .before .
 
 add-i : tie.Need-add-i Inv-loop μ-loop
 add-i c = let s = c .before .before .before .before .before .before .before .before .before .before .before .before .before in omega (arith, c .before .before .before .before .before .before .before .before .before .before .loop-test .taken, frames-are s, good (s .args .page .now) (s .pre .0) .head .few)
-
-loop-less : tie.Need-loop-less Inv-loop μ-loop
-loop-less c = search needs
 
 loop-again : tie.Need-loop-again Inv-loop μ-loop
 loop-again c =
@@ -91,19 +82,5 @@ returns-2 c =
 pub put-rows-spec : {M : Type 1} → statement M
 put-rows-spec =
     tie.close
-    (tie.spec
-    Inv-loop
-    μ-loop
-    loop-holds
-    read-row-requires
-    enum-known-r
-    enum-told
-    same-length
-    returns
-    put-row-requires
-    add-seen
-    add-i
-    loop-less
-    loop-again
-    same-length-2
-    returns-2)
+    (tie.spec Inv-loop μ-loop loop-holds read-row-requires (λ c. search needs) (λ c. search needs) same-length returns put-row-requires add-seen add-i
+    (λ c. search needs) loop-again same-length-2 returns-2)

@@ -1,4 +1,4 @@
--- `sheet_page::read_row` meets its contract. Assumes nothing.
+-- `sheet_page::read_row` meets its contract.
 use lib.ListN.{getD, length}
 use mir.Val.{toZ, ofZ}
 use Rattle.zint.specs.Read.{r-got}
@@ -135,25 +135,6 @@ returns-2 c =
 pub read-row-spec : {M : Type 1} → statement M
 read-row-spec =
     tie.close
-    (tie.spec
-    add-verdict
-    shared-slice-read-verdict
-    cast-verdict
-    row-of-requires
-    returns
-    add-pair
-    mul-pair
-    add-pair-2
-    u16-at-requires
-    cast-index
-    add-contour
-    shared-slice-read-contour
-    cast-contour
-    add-i32-at
-    mul-i32-at
-    add-i32-at-2
-    mul-i32-at-2
-    add-i32-at-3
-    i32-at-requires
-    row-of-requires-2
+    (tie.spec add-verdict shared-slice-read-verdict cast-verdict row-of-requires returns add-pair mul-pair add-pair-2 u16-at-requires cast-index
+    add-contour shared-slice-read-contour cast-contour add-i32-at mul-i32-at add-i32-at-2 mul-i32-at-2 add-i32-at-3 i32-at-requires row-of-requires-2
     returns-2)

@@ -1,4 +1,4 @@
--- `sheet_page::rows_no` meets its contract. Assumes nothing.
+-- `sheet_page::rows_no` meets its contract.
 use mathlib.Core.Path.{_≡_, sym, ap, _∙_}
 use mathlib.Core.Bool.{true}
 use mathlib.Core.Logic.{⊎-elim}
@@ -32,12 +32,6 @@ loop-holds c = (omega arith, sym (voiced-none (c .before .args .page .now)), λ 
 read-row-requires : tie.Need-read-row-requires Inv-loop μ-loop
 read-row-requires c κs = let s = c .before .before .before in (s .pre .0, s .pre .1, s .pre .2, omega (arith, frames-are s), c .before .loop .inv .1)
 
-enum-known-r : tie.Need-enum-known-r Inv-loop μ-loop
-enum-known-r c = search needs
-
-enum-told : tie.Need-enum-told Inv-loop μ-loop
-enum-told c = search needs
-
 returns : tie.Need-returns Inv-loop μ-loop
 returns c =
     let q = c .before .before in
@@ -46,12 +40,6 @@ returns c =
 
 add-seen : tie.Need-add-seen Inv-loop μ-loop
 add-seen c = let q = c .before .before .before .before .before .before .before .before in omega (arith, q .loop .inv .1, voiced-le (q .before .before .args .page .now) (q .loop .i))
-
-add-i : tie.Need-add-i Inv-loop μ-loop
-add-i c = search needs
-
-loop-less : tie.Need-loop-less Inv-loop μ-loop
-loop-less c = search needs
 
 loop-again : tie.Need-loop-again Inv-loop μ-loop
 unfolding readable
@@ -77,16 +65,5 @@ returns-2 c =
 pub rows-no-spec : {M : Type 1} → statement M
 rows-no-spec =
     tie.close
-    (tie.spec
-    Inv-loop
-    μ-loop
-    loop-holds
-    read-row-requires
-    enum-known-r
-    enum-told
-    returns
-    add-seen
-    add-i
-    loop-less
-    loop-again
-    returns-2)
+    (tie.spec Inv-loop μ-loop loop-holds read-row-requires (λ c. search needs) (λ c. search needs) returns add-seen (λ c. search needs)
+    (λ c. search needs) loop-again returns-2)

@@ -1,4 +1,4 @@
--- `sheet_page::sizes_good` meets its contract. Assumes nothing.
+-- `sheet_page::sizes_good` meets its contract.
 use mathlib.Core.Path.{ap₂, _≡_, sym, ap, _∙_}
 use Prim.Native.Nat.{ℕ, _+_, _*_, _≤_}
 use borrow.Author.Tests.{eq-eqb, ne-eqb}
@@ -51,23 +51,11 @@ module _ (c : tie.After-u32-at3) where
 u32-at-requires : tie.Need-u32-at-requires
 u32-at-requires c κs = head-means (c .before .args .page .now) (c .before .pre) .long
 
-cast-frames : tie.Need-cast-frames
-cast-frames c = search needs
-
-add-if1 : tie.Need-add-if1
-add-if1 c = search needs
-
 returns : tie.Need-returns
 unfolding sizes-good sheet-length
 returns c =
     let p = c .before .before .before .args .page .now in
     rw (ne-eqb (length p) (sheet-length (frames-in p) (voiced-in p)) (λ e. omega (arith, e, c .if1 .taken, frames-are (c .before))))
-
-voiced-in-requires : tie.Need-voiced-in-requires
-voiced-in-requires c κs = search needs
-
-add-if2 : tie.Need-add-if2
-add-if2 c = search needs
 
 mul-if2 : tie.Need-mul-if2
 mul-if2 c = omega (arith, voiced-few c)
@@ -81,23 +69,14 @@ returns-2 c =
     let p = c .before .before .before .before .before .args .page .now in
     rw (ne-eqb (length p) (sheet-length (frames-in p) (voiced-in p)) (λ e. c .if2 .taken (omega (arith, e, frames-are (c .before .before .before), voiced-are (c .before)))))
 
-add-u32-at : tie.Need-add-u32-at
-add-u32-at c = search needs
-
 u32-at-requires-2 : tie.Need-u32-at-requires-2
 u32-at-requires-2 c κs = omega (arith, c .if2 .left)
-
-cast-if3 : tie.Need-cast-if3
-cast-if3 c = search needs
 
 returns-3 : tie.Need-returns-3
 unfolding sizes-good
 returns-3 c =
     let p = c .before .before .before .before .before .before .before .args .page .now in
     rw (eq-eqb (length p) (sheet-length (frames-in p) (voiced-in p)) (whole (c .before .before)), ne-eqb (number-at 4 p (pairs-from p)) (voiced-in p) (λ e. c .if3 .taken (pairs-are (c .before) ∙ e ∙ sym (voiced-are (c .before .before .before)))))
-
-add-u32-at-2 : tie.Need-add-u32-at-2
-add-u32-at-2 c = search needs
 
 mul-u32-at : tie.Need-mul-u32-at
 mul-u32-at c = omega (arith, voiced-few (c .before .before .before))
@@ -107,9 +86,6 @@ add-u32-at-3 c = omega (arith, voiced-few (c .before .before .before), few (c .b
 
 u32-at-requires-3 : tie.Need-u32-at-requires-3
 u32-at-requires-3 c κs = omega (arith, c .before .before .if2 .left)
-
-cast-result : tie.Need-cast-result
-cast-result c = search needs
 
 returns-4 : tie.Need-returns-4
 unfolding sizes-good
@@ -121,23 +97,6 @@ returns-4 c =
 pub sizes-good-spec : {M : Type 1} → statement M
 sizes-good-spec =
     tie.close
-    (tie.spec
-    u32-at-requires
-    cast-frames
-    add-if1
-    returns
-    voiced-in-requires
-    add-if2
-    mul-if2
-    add-if2-2
-    returns-2
-    add-u32-at
-    u32-at-requires-2
-    cast-if3
-    returns-3
-    add-u32-at-2
-    mul-u32-at
-    add-u32-at-3
-    u32-at-requires-3
-    cast-result
-    returns-4)
+    (tie.spec u32-at-requires (λ c. search needs) (λ c. search needs) returns (λ c κs. search needs) (λ c. search needs) mul-if2 add-if2-2 returns-2
+    (λ c. search needs) u32-at-requires-2 (λ c. search needs) returns-3 (λ c. search needs) mul-u32-at add-u32-at-3 u32-at-requires-3
+    (λ c. search needs) returns-4)

@@ -1,4 +1,4 @@
--- `sheet_page::voiced_in` meets its contract. Assumes nothing.
+-- `sheet_page::voiced_in` meets its contract.
 use mathlib.Core.Path.{_≡_, sym, ap, _∙_}
 use mathlib.Core.Logic.{⊎-elim}
 use Prim.Native.Nat.{ℕ, _+_, _-_, _≤_}
@@ -18,20 +18,8 @@ abbrev μ-loop : tie.MeasureT-loop
 loop-holds : tie.Need-loop-holds Inv-loop μ-loop
 loop-holds c = (omega arith, sym (voiced-none (c .args .page .now)))
 
-add-if1 : tie.Need-add-if1 Inv-loop μ-loop
-add-if1 c = search needs
-
-shared-slice-read-if1 : tie.Need-shared-slice-read-if1 Inv-loop μ-loop
-shared-slice-read-if1 c = search needs
-
 add-voiced : tie.Need-add-voiced Inv-loop μ-loop
 add-voiced c = let q = c .before .before .before in omega (arith, q .loop .inv .1, voiced-le (q .before .args .page .now) (q .loop .i))
-
-add-i : tie.Need-add-i Inv-loop μ-loop
-add-i c = search needs
-
-loop-less : tie.Need-loop-less Inv-loop μ-loop
-loop-less c = search needs
 
 loop-again : tie.Need-loop-again Inv-loop μ-loop
 unfolding verdict-in
@@ -52,14 +40,5 @@ returns c = let q = c .before in q .loop .inv .1 ∙ ap (voiced-before (q .befor
 pub voiced-in-spec : {M : Type 1} → statement M
 voiced-in-spec =
     tie.close
-    (tie.spec
-    Inv-loop
-    μ-loop
-    loop-holds
-    add-if1
-    shared-slice-read-if1
-    add-voiced
-    add-i
-    loop-less
-    loop-again
+    (tie.spec Inv-loop μ-loop loop-holds (λ c. search needs) (λ c. search needs) add-voiced (λ c. search needs) (λ c. search needs) loop-again
     returns)

@@ -1,4 +1,4 @@
--- `sheet_rows::lag_place` meets its contract. Assumes nothing.
+-- `sheet_rows::lag_place` meets its contract.
 use mathlib.Core.Path.{sym, ap₂, _∙_}
 use native.Mathlib.Omega.{arith}
 use lib.IntN.{ℤ, natAbs}

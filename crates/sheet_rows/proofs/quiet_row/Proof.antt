@@ -1,4 +1,4 @@
--- `sheet_rows::quiet_row` meets its contract. Assumes nothing.
+-- `sheet_rows::quiet_row` meets its contract.
 use Rattle.zint.specs.Read.{r-var}
 use Rattle.sheet_rows.specs.Rows.{quiet-row}
 use Rattle.sheet_rows.proofs.quiet_row.Statement.{statement}

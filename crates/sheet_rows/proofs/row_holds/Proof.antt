@@ -1,4 +1,4 @@
--- `sheet_rows::row_holds` meets its contract. Assumes nothing.
+-- `sheet_rows::row_holds` meets its contract.
 use mathlib.Core.Path.{_≡_, sym, _∙_}
 use mir.Syntax.{w32}
 use Rattle.zint.specs.Read.{r-elem}

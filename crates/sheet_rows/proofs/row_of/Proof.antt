@@ -1,4 +1,4 @@
--- `sheet_rows::row_of` meets its contract. Assumes nothing.
+-- `sheet_rows::row_of` meets its contract.
 use mathlib.Core.Path.{_≡_, sym, ap, ap₂, _∙_}
 use Prim.Native.Nat.{ℕ, _<_}
 use native.Mathlib.Omega.{arith}
@@ -77,13 +77,4 @@ returns-5 c =
 pub row-of-spec : {M : Type 1} → statement M
 row-of-spec =
     tie.close
-    (tie.spec
-    pair-carried-requires
-    voiced-row-requires
-    returns
-    returns-2
-    quiet-row-requires
-    returns-3
-    quiet-row-requires-2
-    returns-4
-    returns-5)
+    (tie.spec pair-carried-requires voiced-row-requires returns returns-2 quiet-row-requires returns-3 quiet-row-requires-2 returns-4 returns-5)

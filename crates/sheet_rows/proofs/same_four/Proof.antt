@@ -1,4 +1,4 @@
--- `sheet_rows::same_four` meets its contract. Assumes nothing.
+-- `sheet_rows::same_four` meets its contract.
 use mathlib.Core.Path.{_≡_, refl, sym, ap, _∙_}
 use mathlib.Core.Bool.{Bool, true, false}
 use borrow.Author.Tests.{eqb-true, eqb-false}

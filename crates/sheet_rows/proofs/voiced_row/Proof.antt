@@ -1,4 +1,4 @@
--- `sheet_rows::voiced_row` meets its contract. Assumes nothing.
+-- `sheet_rows::voiced_row` meets its contract.
 use mathlib.Core.Path.{_≡_, ap₂, _∙_}
 use mathlib.Core.Bool.{true}
 use Prim.Native.Nat.{ℕ, _^_, _<_}
@@ -50,9 +50,4 @@ returns c =
 pub voiced-row-spec : {M : Type 1} → statement M
 voiced-row-spec =
     tie.close
-    (tie.spec
-    lag-place-requires
-    lag-place-requires-2
-    lag-place-requires-3
-    lag-place-requires-4
-    returns)
+    (tie.spec lag-place-requires lag-place-requires-2 lag-place-requires-3 lag-place-requires-4 returns)

@@ -1,4 +1,4 @@
--- `sheet_sections::put_part` meets its contract. Assumes nothing.
+-- `sheet_sections::put_part` meets its contract.
 use mathlib.Core.Path.{_≡_, sym, ap, _∙_}
 use mathlib.Core.Bool.{true}
 use Prim.Native.Nat.{_+_, _≤_}
@@ -49,9 +49,6 @@ contour-is c = r-elem w32 (c .before .before .before .before .before .before .be
 correlation-is : (c : tie.After-struct-told4) → toZ w32 (ofZ w32 (c .before .before .before .before .before .before .before .args .r .correlation)) ≡ c .before .before .before .before .before .before .before .args .r .correlation
 correlation-is c = r-elem w32 (c .before .before .before .before .before .before .before .args .r .correlation) (c .struct-told4 .given .1 .1 .1 .0 .1) .val
 
-enum-told : tie.Need-enum-told
-enum-told c = search needs
-
 cast-page : tie.Need-cast-page
 cast-page c = let s = c .before .before .before .before in as-unsigned w8 (natAbs (s .args .r .verdict)) (verdict-is (c .before .before) ∙ s .pre .0 .verdict) (omega (arith, s .pre .0 .verdict-le))
 
@@ -60,9 +57,6 @@ slice-write-page c = omega (arith, room (c .before .before) Verdicts (c .enum-to
 
 add-result : tie.Need-add-result
 add-result c = omega (arith, room (c .before .before) Verdicts (c .enum-told .given .1) (listed-verdict (c .before .before .before .before .args .r)))
-
-enum-told-2 : tie.Need-enum-told-2
-enum-told-2 c = search needs
 
 returns : tie.Need-returns
 returns c = let a = c .before .before .before .before .before .args in rw (c .before .enum-told2 .given .1) (put-unlisted Pairs (a .r) (a .page .now) (a .at) (unlisted-pair (a .r) (not-voiced (c .before .before .before) (c .if1 .taken))))
@@ -84,9 +78,6 @@ slice-write-page-2 c = omega (arith, pair-room (c .before .before .before .befor
 
 add-result-2 : tie.Need-add-result-2
 add-result-2 c = omega (arith, pair-room (c .before .before .before .before .before .before .before .before), c .before .before .before .before .before .before .before .before .before .before .before .before .before .good)
-
-enum-told-3 : tie.Need-enum-told-3
-enum-told-3 c = search needs
 
 returns-2 : tie.Need-returns-2
 returns-2 c = let a = c .before .before .before .before .before .args in rw (c .before .enum-told3 .given .1) (put-unlisted Correlations (a .r) (a .page .now) (a .at) (unlisted-correlation (a .r) (not-voiced (c .before .before .before) (c .if2 .taken))))
@@ -112,9 +103,6 @@ returns-4 c =
     rw (c .before .before .before .before .before .before .before .before .before .enum-told2 .given .1)
     (put-pair (a .r) (a .page .now) (a .at) (is-voiced (c .before .before .before .before .before .before .before .before .before .before .before) (c .before .before .before .before .before .before .before .before .if1 .left)) (c .before .before .before .before .put-u16 .ensures) (ap natAbs (index-is (c .before .before .before .before .before))) (ap natAbs (contour-is c)))
 
-same-length-3 : tie.Need-same-length-3
-same-length-3 c = search needs
-
 returns-5 : tie.Need-returns-5
 returns-5 c =
     let a = c .before .before .before .before .before .before .before .before .before .before .args in
@@ -124,26 +112,6 @@ returns-5 c =
 pub put-part-spec : {M : Type 1} → statement M
 put-part-spec =
     tie.close
-    (tie.spec
-    enum-told
-    cast-page
-    slice-write-page
-    add-result
-    enum-told-2
-    returns
-    cast-put-u16
-    put-u16-requires
-    cast-page-2
-    add-page
-    slice-write-page-2
-    add-result-2
-    enum-told-3
-    returns-2
-    put-i32-requires
-    add-result-3
-    same-length
-    returns-3
-    same-length-2
-    returns-4
-    same-length-3
-    returns-5)
+    (tie.spec (λ c. search needs) cast-page slice-write-page add-result (λ c. search needs) returns cast-put-u16 put-u16-requires cast-page-2 add-page
+    slice-write-page-2 add-result-2 (λ c. search needs) returns-2 put-i32-requires add-result-3 same-length returns-3 same-length-2 returns-4
+    (λ c. search needs) returns-5)

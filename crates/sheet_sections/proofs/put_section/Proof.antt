@@ -1,4 +1,4 @@
--- `sheet_sections::put_section` meets its contract. Assumes nothing.
+-- `sheet_sections::put_section` meets its contract.
 use mathlib.Core.Path.{_≡_, ap, _∙_}
 use lib.ListN.{length, length-append}
 use Rattle.lists.specs.Fill.{table}
@@ -56,12 +56,6 @@ put-part-requires c κs =
       rw e (omega (arith, q .loop .inv .1 .ends, put-length (q .loop .inv .1), q .before .before .before .put-u32 .kept .0, parts-room (a .which) (a .table .now) (q .loop .i) (a .frames) (omega arith), room s)),
     )
 
-add-i : tie.Need-add-i Inv-loop μ-loop
-add-i c = search needs
-
-loop-less : tie.Need-loop-less Inv-loop μ-loop
-loop-less c = search needs
-
 loop-again : tie.Need-loop-again Inv-loop μ-loop
 loop-again c =
     let q = c .before .before .before .before .before .before in
@@ -87,17 +81,5 @@ returns c =
 pub put-section-spec : {M : Type 1} → statement M
 put-section-spec =
     tie.close
-    (tie.spec
-    Inv-loop
-    μ-loop
-    cast-put-u32
-    put-u32-requires
-    add-end
-    loop-holds
-    get-row-requires
-    put-part-requires
-    add-i
-    loop-less
-    loop-again
-    same-length
-    returns)
+    (tie.spec Inv-loop μ-loop cast-put-u32 put-u32-requires add-end loop-holds get-row-requires put-part-requires (λ c. search needs)
+    (λ c. search needs) loop-again same-length returns)

@@ -1,4 +1,4 @@
--- `sheet_sections::put_settings` meets its contract. Assumes nothing.
+-- `sheet_sections::put_settings` meets its contract.
 use mathlib.Core.Path.{refl}
 use Prim.Native.Nat.{ℕ, _≤_}
 use native.Mathlib.Omega.{arith}
@@ -15,29 +15,14 @@ use Rattle.sheet_sections.proofs.put_settings.Tie as tie
 small : (n : ℕ) → n ≤ 16 → Fits w32 n
 small n h = record { fits = omega arith }
 
-put-u32-requires : tie.Need-put-u32-requires
-put-u32-requires c κs = search needs
-
 cast-put-u32 : tie.Need-cast-put-u32
 cast-put-u32 c = small (c .before .before .before .before .before .before .before .args .s .rate) (accepted (c .before .before .before .before .before .before .before .args .s) (c .before .before .before .before .before .before .before .pre .0) .rate-high)
-
-put-u32-requires-2 : tie.Need-put-u32-requires-2
-put-u32-requires-2 c κs = search needs
 
 cast-put-u32-2 : tie.Need-cast-put-u32-2
 cast-put-u32-2 c = let a = accepted (c .before .before .before .before .before .before .before .before .before .before .before .before .args .s) (c .before .before .before .before .before .before .before .before .before .before .before .before .pre .0) in small (c .before .before .before .before .before .before .before .before .before .before .before .before .args .s .nb) (omega (arith, a .nb-high))
 
-put-u32-requires-3 : tie.Need-put-u32-requires-3
-put-u32-requires-3 c κs = search needs
-
 cast-put-u32-3 : tie.Need-cast-put-u32-3
 cast-put-u32-3 c = let a = accepted (c .before .before .before .before .before .before .before .before .before .before .before .before .before .before .before .before .before .args .s) (c .before .before .before .before .before .before .before .before .before .before .before .before .before .before .before .before .before .pre .0) in small (c .before .before .before .before .before .before .before .before .before .before .before .before .before .before .before .before .before .args .s .complexity) (omega (arith, a .complexity))
-
-put-u32-requires-4 : tie.Need-put-u32-requires-4
-put-u32-requires-4 c κs = search needs
-
-put-i32-requires : tie.Need-put-i32-requires
-put-i32-requires c κs = search needs
 
 put-i32-requires-2 : tie.Need-put-i32-requires-2
 put-i32-requires-2 c κs = omega (arith, c .before .before .before .before .put-i32 .kept .0, c .before .before .before .before .before .before .before .before .before .put-u324 .kept .0, c .before .before .before .before .before .before .before .before .before .before .before .before .before .before .put-u323 .kept .0, c .before .before .before .before .before .before .before .before .before .before .before .before .before .before .before .before .before .before .before .put-u322 .kept .0, c .before .before .before .before .before .before .before .before .before .before .before .before .before .before .before .before .before .before .before .before .before .before .before .before .put-u32 .kept .0, c .before .before .before .before .before .before .before .before .before .before .before .before .before .before .before .before .before .before .before .before .before .before .before .before .before .before .before .pre .1)
@@ -59,15 +44,5 @@ returns c =
 pub put-settings-spec : {M : Type 1} → statement M
 put-settings-spec =
     tie.close
-    (tie.spec
-    put-u32-requires
-    cast-put-u32
-    put-u32-requires-2
-    cast-put-u32-2
-    put-u32-requires-3
-    cast-put-u32-3
-    put-u32-requires-4
-    put-i32-requires
-    put-i32-requires-2
-    same-length
-    returns)
+    (tie.spec (λ c κs. search needs) cast-put-u32 (λ c κs. search needs) cast-put-u32-2 (λ c κs. search needs) cast-put-u32-3 (λ c κs. search needs)
+    (λ c κs. search needs) put-i32-requires-2 same-length returns)

@@ -1,4 +1,4 @@
--- `sheet_sections::put_sheet` meets its contract. Assumes nothing.
+-- `sheet_sections::put_sheet` meets its contract.
 use mathlib.Core.Path.{sym, _∙_}
 use Prim.Native.Nat.{ℕ, _+_, _≤_, _<_}
 use native.Mathlib.Omega.{arith}
@@ -67,10 +67,4 @@ returns c = put-then (put-then (put-then (c .before .before .before .before .bef
 pub put-sheet-spec : {M : Type 1} → statement M
 put-sheet-spec =
     tie.close
-    (tie.spec
-    put-settings-requires
-    put-section-requires
-    put-section-requires-2
-    put-section-requires-3
-    same-length
-    returns)
+    (tie.spec put-settings-requires put-section-requires put-section-requires-2 put-section-requires-3 same-length returns)

@@ -1,4 +1,4 @@
--- `sheet_sections::sheet_length` meets its contract. Assumes nothing.
+-- `sheet_sections::sheet_length` meets its contract.
 use native.Mathlib.Omega.{arith}
 use Rattle.sheet_sections.specs.Sheet.{sheet-length}
 use borrow.Author.Needs.{needs}

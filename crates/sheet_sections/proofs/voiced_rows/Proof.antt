@@ -1,4 +1,4 @@
--- `sheet_sections::voiced_rows` meets its contract. Assumes nothing.
+-- `sheet_sections::voiced_rows` meets its contract.
 use mathlib.Core.Path.{_≡_, refl, sym, ap, _∙_}
 use mathlib.Core.Logic.{⊎-elim}
 use Prim.Native.Nat.{ℕ, _+_, _-_, _≤_}
@@ -38,12 +38,6 @@ get-row-requires c κs = omega arith
 add-voiced : tie.Need-add-voiced Inv-loop μ-loop
 add-voiced c = let s = c .before .before .before .before .before in omega (arith, s .loop .inv .1, entries-le Pairs (rows-of (s .before .args .table .now) (s .loop .i)), length-rows (s .before .args .table .now) (s .loop .i), s .before .fits .frames)
 
-add-i : tie.Need-add-i Inv-loop μ-loop
-add-i c = search needs
-
-loop-less : tie.Need-loop-less Inv-loop μ-loop
-loop-less c = search needs
-
 loop-again : tie.Need-loop-again Inv-loop μ-loop
 loop-again c =
     let s = c .before .before .before .before in
@@ -63,13 +57,4 @@ returns c = let s = c .before in s .loop .inv .1 ∙ ap (λ (n : ℕ). length (e
 pub voiced-rows-spec : {M : Type 1} → statement M
 voiced-rows-spec =
     tie.close
-    (tie.spec
-    Inv-loop
-    μ-loop
-    loop-holds
-    get-row-requires
-    add-voiced
-    add-i
-    loop-less
-    loop-again
-    returns)
+    (tie.spec Inv-loop μ-loop loop-holds get-row-requires add-voiced (λ c. search needs) (λ c. search needs) loop-again returns)

@@ -1,4 +1,4 @@
--- `sheet_text::head_values` meets its contract. Assumes nothing.
+-- `sheet_text::head_values` meets its contract.
 use native.Mathlib.Omega.{arith}
 use borrow.Author.Needs.{needs}
 use mir.Syntax.{w32}

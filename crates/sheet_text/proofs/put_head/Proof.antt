@@ -1,4 +1,4 @@
--- `sheet_text::put_head` meets its contract. Assumes nothing.
+-- `sheet_text::put_head` meets its contract.
 use mathlib.Core.Path.{_≡_, ap, _∙_}
 use mathlib.Core.List.{List}
 use Prim.Native.Nat.{_≤_}
@@ -23,9 +23,6 @@ size : (c : tie.After-head-values) → length (c .head-values .result) ≡ 5
 unfolding head-values
 size c = ap length (c .head-values .ensures)
 
-head-values-requires : tie.Need-head-values-requires
-head-values-requires c κs = search needs
-
 cast-put-digits : tie.Need-cast-put-digits
 cast-put-digits c =
     let s = c .before .before .before .before in
@@ -33,9 +30,6 @@ cast-put-digits c =
 
 put-digits-requires : tie.Need-put-digits-requires
 put-digits-requires c κs = let s = c .before .before .before .before in omega (arith, short s, s .pre .2)
-
-slice-aggregate-put-fields : tie.Need-slice-aggregate-put-fields
-slice-aggregate-put-fields c = search needs
 
 put-fields-requires : tie.Need-put-fields-requires
 put-fields-requires c κs =
@@ -74,13 +68,5 @@ returns c =
 pub put-head-spec : {M : Type 1} → statement M
 put-head-spec =
     tie.close
-    (tie.spec
-    head-values-requires
-    cast-put-digits
-    put-digits-requires
-    slice-aggregate-put-fields
-    put-fields-requires
-    slice-write-out
-    add-result
-    same-length
-    returns)
+    (tie.spec (λ c κs. search needs) cast-put-digits put-digits-requires (λ c. search needs) put-fields-requires slice-write-out add-result
+    same-length returns)

@@ -1,4 +1,4 @@
--- `sheet_text::put_report` meets its contract. Assumes nothing.
+-- `sheet_text::put_report` meets its contract.
 use native.Mathlib.Omega.{arith}
 use borrow.Author.Needs.{needs}
 use Rattle.pitch_settings.specs.SettingsLaws.{accepted}

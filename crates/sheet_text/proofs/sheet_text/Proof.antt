@@ -1,4 +1,4 @@
--- `sheet_text::sheet_text` meets its contract. Assumes nothing.
+-- `sheet_text::sheet_text` meets its contract.
 use mathlib.Core.Path.{sym, ap, _∙_}
 use mathlib.Core.List.{List, _++_}
 use Prim.Native.Nat.{ℕ}
@@ -18,12 +18,6 @@ sheet c = let s = c .before .before .before .before .before .before .before .bef
 none : (c : tie.After-said2) → Refused (c .before .before .before .before .before .before .before .before .args .input .now) (c .before .before .before .before .before .before .before .before .args .table .now) (c .said2 .given .0 .0) (c .before .before .before .read-sheet .last .1 .0)
 none c = let s = c .before .before .before .before .before .before .before .before in refused (s .args .input .now) (s .args .table .now) (s .pre .1) (c .before .before .before .read-sheet .ensures .0) (c .said2 .given .1)
 
-put-refused-requires : tie.Need-put-refused-requires
-put-refused-requires c κs = search needs
-
-same-length : tie.Need-same-length
-same-length c = search needs
-
 returns : tie.Need-returns
 returns c =
     let s = c .before .before .before .before .before .before .before in
@@ -36,12 +30,6 @@ returns c =
       omega (arith, w .1),
     )
 
-read-sheet-requires : tie.Need-read-sheet-requires
-read-sheet-requires c κs = search needs
-
-enum-known-said : tie.Need-enum-known-said
-enum-known-said c = search needs
-
 put-report-requires : tie.Need-put-report-requires
 put-report-requires c κs =
     let d = c .before .before .before in
@@ -49,20 +37,8 @@ put-report-requires c κs =
     let f = sheet d in
     (settings-known f, few-frames f, omega (arith, few-frames f, d .before .before .before .read-sheet .kept .1 .0, s .pre .1), s .pre .2)
 
-enum-known-said-2 : tie.Need-enum-known-said-2
-enum-known-said-2 c = search needs
-
 cast-put-refused : tie.Need-cast-put-refused
 cast-put-refused c = omega (arith, none (c .before .before) .nine)
-
-put-refused-requires-2 : tie.Need-put-refused-requires-2
-put-refused-requires-2 c κs = search needs
-
-same-length-2 : tie.Need-same-length-2
-same-length-2 c = search needs
-
-same-length-3 : tie.Need-same-length-3
-same-length-3 c = search needs
 
 returns-2 : tie.Need-returns-2
 returns-2 c =
@@ -76,12 +52,6 @@ returns-2 c =
           ∙ ap (λ (p : List ℕ). printedOf p (s .args .out .now) (s .args .table .now)) (sym (none-more (s .args .input .now) rest (e ∙ n))),
       w .1,
     )
-
-same-length-4 : tie.Need-same-length-4
-same-length-4 c = search needs
-
-same-length-5 : tie.Need-same-length-5
-same-length-5 c = search needs
 
 returns-3 : tie.Need-returns-3
 returns-3 c =
@@ -99,19 +69,5 @@ returns-3 c =
 pub sheet-text-spec : {M : Type 1} → statement M
 sheet-text-spec =
     tie.close
-    (tie.spec
-    put-refused-requires
-    same-length
-    returns
-    read-sheet-requires
-    enum-known-said
-    put-report-requires
-    enum-known-said-2
-    cast-put-refused
-    put-refused-requires-2
-    same-length-2
-    same-length-3
-    returns-2
-    same-length-4
-    same-length-5
-    returns-3)
+    (tie.spec (λ c κs. search needs) (λ c. search needs) returns (λ c κs. search needs) (λ c. search needs) put-report-requires (λ c. search needs)
+    cast-put-refused (λ c κs. search needs) (λ c. search needs) (λ c. search needs) returns-2 (λ c. search needs) (λ c. search needs) returns-3)

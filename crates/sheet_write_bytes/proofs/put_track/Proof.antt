@@ -1,4 +1,4 @@
--- `sheet_write_bytes::put_track` meets its contract. Assumes nothing.
+-- `sheet_write_bytes::put_track` meets its contract.
 use mathlib.Core.Path.{_≡_, ap, _∙_}
 use Rattle.pitch_track.specs.declared.Started.{Started}
 use Rattle.pitch_track.specs.Step.{outcome, startOf, deliverOf}
@@ -15,27 +15,6 @@ module _ (c : tie.After-deliver) where
   delivered : outcome (c .deliver .result) (c .deliver .last .1 .1 .0) ≡ deliverOf (startOf (start .args .s) .track) (start .args .table .now) (start .args .x .now)
   delivered = c .deliver .ensures .0 ∙ ap (λ (r : Started). deliverOf (r .track) (start .args .table .now) (start .args .x .now)) (c .before .before .before .start .ensures .0)
 
-start-requires : tie.Need-start-requires
-start-requires c κs = search needs
-
-deliver-requires : tie.Need-deliver-requires
-deliver-requires c κs = search needs
-
-write-sheet-requires : tie.Need-write-sheet-requires
-write-sheet-requires c κs = search needs
-
-enum-known-w : tie.Need-enum-known-w
-enum-known-w c = search needs
-
-enum-told : tie.Need-enum-told
-enum-told c = search needs
-
-same-length : tie.Need-same-length
-same-length c = search needs
-
-same-length-2 : tie.Need-same-length-2
-same-length-2 c = search needs
-
 returns : tie.Need-returns
 returns c =
     let w = c .before .before .before .before in
@@ -43,12 +22,6 @@ returns c =
     let a = start d in
     let g = c .enum-told .given in
     absurd (never-refused (a .args .s) (a .args .table .now) (a .args .x .now) (a .args .out .now) (a .pre .0) (a .pre .1) (a .pre .2) (outcome (d .deliver .result) (d .deliver .last .1 .1 .0)) (delivered d) (w .write-sheet .result) (w .write-sheet .last .1 .1 .1 .0) (w .write-sheet .ensures .0) (g .0 .0) (g .1))
-
-same-length-3 : tie.Need-same-length-3
-same-length-3 c = search needs
-
-same-length-4 : tie.Need-same-length-4
-same-length-4 c = search needs
 
 returns-2 : tie.Need-returns-2
 returns-2 c =
@@ -64,15 +37,5 @@ returns-2 c =
 pub put-track-spec : {M : Type 1} → statement M
 put-track-spec =
     tie.close
-    (tie.spec
-    start-requires
-    deliver-requires
-    write-sheet-requires
-    enum-known-w
-    enum-told
-    same-length
-    same-length-2
-    returns
-    same-length-3
-    same-length-4
-    returns-2)
+    (tie.spec (λ c κs. search needs) (λ c κs. search needs) (λ c κs. search needs) (λ c. search needs) (λ c. search needs) (λ c. search needs)
+    (λ c. search needs) returns (λ c. search needs) (λ c. search needs) returns-2)

@@ -1,4 +1,4 @@
--- `sheet_write_bytes::sheet_write_bytes` meets its contract. Assumes nothing.
+-- `sheet_write_bytes::sheet_write_bytes` meets its contract.
 use mathlib.Core.Path.{_≡_, sym, ap, ap₂, _∙_}
 use mathlib.Core.List.{List, _++_}
 use Prim.Native.Nat.{ℕ, _-_, _/_, _≤_}
@@ -148,21 +148,6 @@ returns-2 c =
 pub sheet-write-bytes-spec : {M : Type 1} → statement M
 sheet-write-bytes-spec =
     tie.close
-    (tie.spec
-    program-no-requires
-    cast-put-refused
-    put-refused-requires
-    same-length
-    returns
-    settings-in-requires
-    sub-n
-    slice-relend-prefix-load-samples
-    slice-aggregate-load-samples
-    load-samples-requires
-    slice-reshare-prefix-put-track
-    slice-aggregate-put-track
-    put-track-requires
-    same-length-2
-    same-length-3
-    same-length-4
-    returns-2)
+    (tie.spec program-no-requires cast-put-refused put-refused-requires same-length returns settings-in-requires sub-n
+    slice-relend-prefix-load-samples slice-aggregate-load-samples load-samples-requires slice-reshare-prefix-put-track slice-aggregate-put-track
+    put-track-requires same-length-2 same-length-3 same-length-4 returns-2)

@@ -1,4 +1,4 @@
--- `silk_pitch_analysis::analyse_working` meets its contract. Assumes nothing.
+-- `silk_pitch_analysis::analyse_working` meets its contract.
 use mathlib.Core.Path.{_≡_, refl, sym, ap, _∙_}
 use mathlib.Core.List.{List}
 use Prim.Native.Nat.{ℕ, _+_, _*_, _/_, _≤_}

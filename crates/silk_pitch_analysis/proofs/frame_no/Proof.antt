@@ -1,4 +1,4 @@
--- `silk_pitch_analysis::frame_no` meets its contract. Assumes nothing.
+-- `silk_pitch_analysis::frame_no` meets its contract.
 use mathlib.Core.Path.{_≡_, sym, ap, _∙_}
 use borrow.Author.Needs.{needs}
 use borrow.Author.Tests.{eq-eqb, ne-eqb, lt-ltb, le-ltb}

@@ -1,4 +1,4 @@
--- `silk_pitch_analysis::frame_row` meets its contract. Assumes nothing.
+-- `silk_pitch_analysis::frame_row` meets its contract.
 use mathlib.Core.Path.{_≡_, sym, ap, _∙_, subst}
 use Prim.Native.Nat.{ℕ}
 use borrow.Author.Needs.{needs}

@@ -1,4 +1,4 @@
--- `silk_pitch_analysis::last_stage` meets its contract. Assumes nothing.
+-- `silk_pitch_analysis::last_stage` meets its contract.
 use mathlib.Core.Path.{_≡_, sym, ap, _∙_}
 use mathlib.Core.Bool.{Bool, cond}
 use Prim.Native.Nat.{ℕ, _*_, _/_, _<_, _≤_}

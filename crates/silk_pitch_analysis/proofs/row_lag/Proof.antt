@@ -1,4 +1,4 @@
--- `silk_pitch_analysis::row_lag` meets its contract. Assumes nothing.
+-- `silk_pitch_analysis::row_lag` meets its contract.
 use borrow.Author.Tests.{lt-ltb, le-ltb}
 use lib.IntN.{pos}
 use mir.Syntax.{w32}

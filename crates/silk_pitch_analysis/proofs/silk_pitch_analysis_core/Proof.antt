@@ -1,4 +1,4 @@
--- `silk_pitch_analysis::silk_pitch_analysis_core` meets its contract. Assumes nothing.
+-- `silk_pitch_analysis::silk_pitch_analysis_core` meets its contract.
 use mathlib.Core.Path.{_≡_, sym, ap, _∙_, subst}
 use mathlib.Core.List.{List}
 use Prim.Native.Nat.{ℕ}

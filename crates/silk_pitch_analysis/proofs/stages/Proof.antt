@@ -1,4 +1,4 @@
--- `silk_pitch_analysis::stages` meets its contract. Assumes nothing.
+-- `silk_pitch_analysis::stages` meets its contract.
 use mathlib.Core.Path.{_≡_, sym, ap, ap₂, _∙_, subst}
 use mathlib.Core.List.{List}
 use Prim.Native.Nat.{ℕ, _+_, _*_, _≤_, _<_}

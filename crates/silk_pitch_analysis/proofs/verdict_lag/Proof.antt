@@ -1,4 +1,4 @@
--- `silk_pitch_analysis::verdict_lag` meets its contract. Assumes nothing.
+-- `silk_pitch_analysis::verdict_lag` meets its contract.
 use mathlib.Core.Path.{_≡_, sym, ap, ap₂, _∙_, subst}
 use native.Mathlib.Omega.{arith}
 use lib.IntN.{ℤ, natAbs}

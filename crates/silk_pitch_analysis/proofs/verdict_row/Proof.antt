@@ -1,4 +1,4 @@
--- `silk_pitch_analysis::verdict_row` meets its contract. Assumes nothing.
+-- `silk_pitch_analysis::verdict_row` meets its contract.
 use mathlib.Core.Path.{_≡_}
 use mir.Syntax.{w32}
 use mir.Val.{toZ, ofZ}

@@ -1,4 +1,4 @@
--- `silk_pitch_analysis::voiced` meets its contract. Assumes nothing.
+-- `silk_pitch_analysis::voiced` meets its contract.
 use native.Mathlib.Omega.{arith}
 use Prim.Native.Nat.{_*_}
 use mir.Syntax.{w32}

@@ -1,4 +1,4 @@
--- `silk_resampler::ar2_step` meets its contract. Assumes nothing.
+-- `silk_resampler::ar2_step` meets its contract.
 use mathlib.Core.Path.{_∙_}
 use lib.IntN.{ℤ, _+ℤ_}
 use mir.Syntax.{w32}
@@ -15,21 +15,6 @@ use Rattle.silk_resampler.proofs.ar2_step.Tie as tie
 abbrev add : ℤ → ℤ → ℤ
 add p q = wrap w32 (p +ℤ q)
 
-cast-wrapping-add-i32 : tie.Need-cast-wrapping-add-i32
-cast-wrapping-add-i32 c = search zneeds
-
-wrapping-add-i32-requires : tie.Need-wrapping-add-i32-requires
-wrapping-add-i32-requires c κs = search zneeds
-
-silk-smlawb-requires : tie.Need-silk-smlawb-requires
-silk-smlawb-requires c κs = search zneeds
-
-wrapping-add-i32-requires-2 : tie.Need-wrapping-add-i32-requires-2
-wrapping-add-i32-requires-2 c κs = search zneeds
-
-silk-smlawb-requires-2 : tie.Need-silk-smlawb-requires-2
-silk-smlawb-requires-2 c κs = search zneeds
-
 returns : tie.Need-returns
 unfolding ar2-out
 returns c =
@@ -45,10 +30,4 @@ returns c =
 pub ar2-step-spec : {M : Type 1} → statement M
 ar2-step-spec =
     tie.close
-    (tie.spec
-    cast-wrapping-add-i32
-    wrapping-add-i32-requires
-    silk-smlawb-requires
-    wrapping-add-i32-requires-2
-    silk-smlawb-requires-2
-    returns)
+    (tie.spec (λ c. search zneeds) (λ c κs. search zneeds) (λ c κs. search zneeds) (λ c κs. search zneeds) (λ c κs. search zneeds) returns)

@@ -1,4 +1,4 @@
--- `silk_resampler::decimate` meets its contract: `out` is filled below 2 m. Assumes nothing.
+-- `silk_resampler::decimate` meets its contract: `out` is filled below 2 m.
 use Prim.Native.Nat.{ℕ, _≤_, _-_, _+_, _*_}
 use mathlib.Core.Path.{_≡_, refl, ap, _∙_}
 use native.Mathlib.Omega.{arith}
@@ -22,38 +22,8 @@ abbrev μ-loop : tie.MeasureT-loop
 loop-holds : tie.Need-loop-holds Inv-loop μ-loop
 loop-holds c = (omega arith, (refl, filled-none _ _))
 
-even-output-requires : tie.Need-even-output-requires Inv-loop μ-loop
-even-output-requires c κs = search zneeds
-
-odd-output-requires : tie.Need-odd-output-requires Inv-loop μ-loop
-odd-output-requires c κs = search zneeds
-
-mul-even : tie.Need-mul-even Inv-loop μ-loop
-mul-even c = search zneeds
-
-mul-even-2 : tie.Need-mul-even-2 Inv-loop μ-loop
-mul-even-2 c = search zneeds
-
-slice-set-from-even : tie.Need-slice-set-from-even Inv-loop μ-loop
-slice-set-from-even c = search zneeds
-
-mul-odd : tie.Need-mul-odd Inv-loop μ-loop
-mul-odd c = search zneeds
-
-add-odd : tie.Need-add-odd Inv-loop μ-loop
-add-odd c = search zneeds
-
-mul-odd-2 : tie.Need-mul-odd-2 Inv-loop μ-loop
-mul-odd-2 c = search zneeds
-
 slice-set-from-odd : tie.Need-slice-set-from-odd Inv-loop μ-loop
 slice-set-from-odd c = simp length-set (omega arith)
-
-add-m : tie.Need-add-m Inv-loop μ-loop
-add-m c = search zneeds
-
-loop-less : tie.Need-loop-less Inv-loop μ-loop
-loop-less c = search zneeds
 
 loop-again : tie.Need-loop-again Inv-loop μ-loop
 loop-again c =
@@ -70,9 +40,6 @@ loop-again c =
     let t = filled-turn f (2 * m) (a .out .now) (i .1) e (omega arith) in
     (g, (simp length-set (i .0), filled-turn f (2 * m + 1) (a .out .now) t o (omega arith) ∙ ap (λ (k : ℕ). filled f k (a .out .now)) h))
 
-same-length : tie.Need-same-length Inv-loop μ-loop
-same-length c = search zneeds
-
 returns : tie.Need-returns Inv-loop μ-loop
 returns c =
     let l = c .before in
@@ -83,21 +50,6 @@ returns c =
 pub decimate-spec : {M : Type 1} → statement M
 decimate-spec =
     tie.close
-    (tie.spec
-    Inv-loop
-    μ-loop
-    loop-holds
-    even-output-requires
-    odd-output-requires
-    mul-even
-    mul-even-2
-    slice-set-from-even
-    mul-odd
-    add-odd
-    mul-odd-2
-    slice-set-from-odd
-    add-m
-    loop-less
-    loop-again
-    same-length
-    returns)
+    (tie.spec Inv-loop μ-loop loop-holds (λ c κs. search zneeds) (λ c κs. search zneeds) (λ c. search zneeds) (λ c. search zneeds)
+    (λ c. search zneeds) (λ c. search zneeds) (λ c. search zneeds) (λ c. search zneeds) slice-set-from-odd (λ c. search zneeds) (λ c. search zneeds)
+    loop-again (λ c. search zneeds) returns)

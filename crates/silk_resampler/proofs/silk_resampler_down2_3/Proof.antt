@@ -1,4 +1,4 @@
--- `silk_resampler::silk_resampler_down2_3` meets its contract. Assumes nothing.
+-- `silk_resampler::silk_resampler_down2_3` meets its contract.
 use mathlib.Core.Path.{_≡_, sym, ap, _∙_}
 use mathlib.Core.List.{List}
 use Prim.Native.Nat.{ℕ, _+_, _-_, _<_}
@@ -48,68 +48,14 @@ module _ (c : tie.After-buf4) where
       (c .before .before .before .before .before .before .before .copy-values .ensures)
       (c .before .before .silk-resampler-private-ar2 .ensures .0 ∙ ap (λ (z : States). filled (filtered source-filter (negsuc 2796) (negsuc 6506) z x) m (take (4 + m - 4) (drop 4 held))) (states-part (drop 4 s)))
 
-slice-aggregate-copy-values : tie.Need-slice-aggregate-copy-values
-slice-aggregate-copy-values c = search zneeds
-
-copy-values-requires : tie.Need-copy-values-requires
-copy-values-requires c κs = search zneeds
-
-add-silk-resampler-private-ar2 : tie.Need-add-silk-resampler-private-ar2
-add-silk-resampler-private-ar2 c = search zneeds
-
-sub-silk-resampler-private-ar2 : tie.Need-sub-silk-resampler-private-ar2
-sub-silk-resampler-private-ar2 c = search zneeds
-
-part-silk-resampler-private-ar2-start : tie.Need-part-silk-resampler-private-ar2-start
-part-silk-resampler-private-ar2-start c = search zneeds
-
-part-silk-resampler-private-ar2-end : tie.Need-part-silk-resampler-private-ar2-end
-part-silk-resampler-private-ar2-end c = search zneeds
-
-add-silk-resampler-private-ar2-2 : tie.Need-add-silk-resampler-private-ar2-2
-add-silk-resampler-private-ar2-2 c = search zneeds
-
-sub-silk-resampler-private-ar2-2 : tie.Need-sub-silk-resampler-private-ar2-2
-sub-silk-resampler-private-ar2-2 c = search zneeds
-
-part-buf-start : tie.Need-part-buf-start
-part-buf-start c = search zneeds
-
-part-buf-end : tie.Need-part-buf-end
-part-buf-end c = search zneeds
-
-slice-aggregate-silk-resampler-private-ar2 : tie.Need-slice-aggregate-silk-resampler-private-ar2
-slice-aggregate-silk-resampler-private-ar2 c = search zneeds
-
-silk-resampler-private-ar2-requires : tie.Need-silk-resampler-private-ar2-requires
-silk-resampler-private-ar2-requires c κs = search zneeds
-
 slice-aggregate-decimate : tie.Need-slice-aggregate-decimate
 slice-aggregate-decimate c = sym (buf-length (c .before .before))
 
 decimate-requires : tie.Need-decimate-requires
 decimate-requires c κs = let e = buf-length (c .before .before) in omega (arith, c .before .before .before .before .before .before .before .before .before .before .before .before .pre)
 
-mul-copy-values : tie.Need-mul-copy-values
-mul-copy-values c = search zneeds
-
-sub-copy-values : tie.Need-sub-copy-values
-sub-copy-values c = search zneeds
-
-part-copy-values-start : tie.Need-part-copy-values-start
-part-copy-values-start c = search zneeds
-
 part-copy-values-end : tie.Need-part-copy-values-end
 part-copy-values-end c = let e = buf-length (c .before .before .before .before .before .before) in omega arith
-
-copy-values-requires-2 : tie.Need-copy-values-requires-2
-copy-values-requires-2 c κs = search zneeds
-
-same-length : tie.Need-same-length
-same-length c = search zneeds
-
-same-length-2 : tie.Need-same-length-2
-same-length-2 c = search zneeds
 
 returns : tie.Need-returns
 unfolding down2-3-states sample
@@ -128,26 +74,7 @@ returns c =
 pub silk-resampler-down2-3-spec : {M : Type 1} → statement M
 silk-resampler-down2-3-spec =
     tie.close
-    (tie.spec
-    slice-aggregate-copy-values
-    copy-values-requires
-    add-silk-resampler-private-ar2
-    sub-silk-resampler-private-ar2
-    part-silk-resampler-private-ar2-start
-    part-silk-resampler-private-ar2-end
-    add-silk-resampler-private-ar2-2
-    sub-silk-resampler-private-ar2-2
-    part-buf-start
-    part-buf-end
-    slice-aggregate-silk-resampler-private-ar2
-    silk-resampler-private-ar2-requires
-    slice-aggregate-decimate
-    decimate-requires
-    mul-copy-values
-    sub-copy-values
-    part-copy-values-start
-    part-copy-values-end
-    copy-values-requires-2
-    same-length
-    same-length-2
-    returns)
+    (tie.spec (λ c. search zneeds) (λ c κs. search zneeds) (λ c. search zneeds) (λ c. search zneeds) (λ c. search zneeds) (λ c. search zneeds)
+    (λ c. search zneeds) (λ c. search zneeds) (λ c. search zneeds) (λ c. search zneeds) (λ c. search zneeds) (λ c κs. search zneeds)
+    slice-aggregate-decimate decimate-requires (λ c. search zneeds) (λ c. search zneeds) (λ c. search zneeds) part-copy-values-end
+    (λ c κs. search zneeds) (λ c. search zneeds) (λ c. search zneeds) returns)

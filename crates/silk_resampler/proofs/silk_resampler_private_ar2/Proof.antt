@@ -1,4 +1,4 @@
--- `silk_resampler::silk_resampler_private_ar2` meets its contract: the states are those of the definition, and the list is filled below k. Assumes nothing.
+-- `silk_resampler::silk_resampler_private_ar2` meets its contract: the states are those of the definition, and the list is filled below k.
 use Prim.Native.Nat.{ℕ, _≤_, _-_, _+_}
 use mathlib.Core.Path.{_≡_, refl, sym, ap, ap₂, _∙_}
 use mathlib.Core.List.{_∷_}
@@ -23,48 +23,9 @@ Inv-loop s out-q8₀ input a-q14 len a0 a1 s0₀ s1₀ k₀ out-q8 s0 s1 k = (k 
 abbrev μ-loop : tie.MeasureT-loop
 μ-loop s out-q8₀ input a-q14 len a0 a1 s0₀ s1₀ k₀ out-q8 s0 s1 k = len - k
 
-shared-slice-copy-out-a0 : tie.Need-shared-slice-copy-out-a0 Inv-loop μ-loop
-shared-slice-copy-out-a0 c = search zneeds
-
-cast-a0 : tie.Need-cast-a0 Inv-loop μ-loop
-cast-a0 c = search zneeds
-
-shared-slice-copy-out-a1 : tie.Need-shared-slice-copy-out-a1 Inv-loop μ-loop
-shared-slice-copy-out-a1 c = search zneeds
-
-cast-a1 : tie.Need-cast-a1 Inv-loop μ-loop
-cast-a1 c = search zneeds
-
-slice-copy-out-s0 : tie.Need-slice-copy-out-s0 Inv-loop μ-loop
-slice-copy-out-s0 c = search zneeds
-
-slice-copy-out-s1 : tie.Need-slice-copy-out-s1 Inv-loop μ-loop
-slice-copy-out-s1 c = search zneeds
-
 loop-holds : tie.Need-loop-holds Inv-loop μ-loop
 unfolding sample states-of ar2-states
 loop-holds c = (omega arith, (refl, (r-elem w32 _ (c .before .s0 .given) .val, (r-elem w32 _ (c .s1 .given) .val, filled-none _ _))))
-
-mul-ar2-step : tie.Need-mul-ar2-step Inv-loop μ-loop
-mul-ar2-step c = search zneeds
-
-shared-slice-copy-out-ar2-step : tie.Need-shared-slice-copy-out-ar2-step Inv-loop μ-loop
-shared-slice-copy-out-ar2-step c = search zneeds
-
-ar2-step-requires : tie.Need-ar2-step-requires Inv-loop μ-loop
-ar2-step-requires c κs = search zneeds
-
-mul-out : tie.Need-mul-out Inv-loop μ-loop
-mul-out c = search zneeds
-
-slice-set-from-out : tie.Need-slice-set-from-out Inv-loop μ-loop
-slice-set-from-out c = search zneeds
-
-add-k : tie.Need-add-k Inv-loop μ-loop
-add-k c = search zneeds
-
-loop-less : tie.Need-loop-less Inv-loop μ-loop
-loop-less c = search zneeds
 
 loop-again : tie.Need-loop-again Inv-loop μ-loop
 unfolding filtered sample
@@ -99,18 +60,6 @@ loop-again c =
       ),
     )
 
-slice-set-from-s0 : tie.Need-slice-set-from-s0 Inv-loop μ-loop
-slice-set-from-s0 c = search zneeds
-
-slice-set-from-s1 : tie.Need-slice-set-from-s1 Inv-loop μ-loop
-slice-set-from-s1 c = search zneeds
-
-same-length : tie.Need-same-length Inv-loop μ-loop
-same-length c = search zneeds
-
-same-length-2 : tie.Need-same-length-2 Inv-loop μ-loop
-same-length-2 c = search zneeds
-
 returns : tie.Need-returns Inv-loop μ-loop
 unfolding with-states
 returns c =
@@ -130,26 +79,6 @@ returns c =
 pub silk-resampler-private-ar2-spec : {M : Type 1} → statement M
 silk-resampler-private-ar2-spec =
     tie.close
-    (tie.spec
-    Inv-loop
-    μ-loop
-    shared-slice-copy-out-a0
-    cast-a0
-    shared-slice-copy-out-a1
-    cast-a1
-    slice-copy-out-s0
-    slice-copy-out-s1
-    loop-holds
-    mul-ar2-step
-    shared-slice-copy-out-ar2-step
-    ar2-step-requires
-    mul-out
-    slice-set-from-out
-    add-k
-    loop-less
-    loop-again
-    slice-set-from-s0
-    slice-set-from-s1
-    same-length
-    same-length-2
-    returns)
+    (tie.spec Inv-loop μ-loop (λ c. search zneeds) (λ c. search zneeds) (λ c. search zneeds) (λ c. search zneeds) (λ c. search zneeds)
+    (λ c. search zneeds) loop-holds (λ c. search zneeds) (λ c. search zneeds) (λ c κs. search zneeds) (λ c. search zneeds) (λ c. search zneeds)
+    (λ c. search zneeds) (λ c. search zneeds) loop-again (λ c. search zneeds) (λ c. search zneeds) (λ c. search zneeds) (λ c. search zneeds) returns)

@@ -1,4 +1,4 @@
--- `silk_signals::copy_into` meets its contract. Assumes nothing.
+-- `silk_signals::copy_into` meets its contract.
 use mathlib.Core.Path.{_≡_, refl, ap, _∙_}
 use mathlib.Core.List.{List}
 use Prim.Native.Nat.{ℕ, _≤_, _-_}
@@ -23,24 +23,6 @@ abbrev μ-loop : tie.MeasureT-loop
 loop-holds : tie.Need-loop-holds Inv-loop μ-loop
 loop-holds c = (search zneeds, (refl, filled-none _ _))
 
-mul-x : tie.Need-mul-x Inv-loop μ-loop
-mul-x c = search zneeds
-
-shared-slice-copy-out-x : tie.Need-shared-slice-copy-out-x Inv-loop μ-loop
-shared-slice-copy-out-x c = search zneeds
-
-mul-x-2 : tie.Need-mul-x-2 Inv-loop μ-loop
-mul-x-2 c = search zneeds
-
-slice-set-from-x : tie.Need-slice-set-from-x Inv-loop μ-loop
-slice-set-from-x c = search zneeds
-
-add-i : tie.Need-add-i Inv-loop μ-loop
-add-i c = search zneeds
-
-loop-less : tie.Need-loop-less Inv-loop μ-loop
-loop-less c = search zneeds
-
 loop-again : tie.Need-loop-again Inv-loop μ-loop
 unfolding sample
 loop-again c =
@@ -54,9 +36,6 @@ loop-again c =
         filled-turn (sample (a .frame .now)) i (a .out .now) (s .loop .inv .1 .1) v (omega arith),
       ),
     )
-
-same-length : tie.Need-same-length Inv-loop μ-loop
-same-length c = search zneeds
 
 returns : tie.Need-returns Inv-loop μ-loop
 unfolding sample
@@ -73,16 +52,5 @@ returns c =
 pub copy-into-spec : {M : Type 1} → statement M
 copy-into-spec =
     tie.close
-    (tie.spec
-    Inv-loop
-    μ-loop
-    loop-holds
-    mul-x
-    shared-slice-copy-out-x
-    mul-x-2
-    slice-set-from-x
-    add-i
-    loop-less
-    loop-again
-    same-length
-    returns)
+    (tie.spec Inv-loop μ-loop loop-holds (λ c. search zneeds) (λ c. search zneeds) (λ c. search zneeds) (λ c. search zneeds) (λ c. search zneeds)
+    (λ c. search zneeds) loop-again (λ c. search zneeds) returns)

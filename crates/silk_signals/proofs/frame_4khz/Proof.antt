@@ -1,4 +1,4 @@
--- `silk_signals::frame_4khz` meets its contract. Assumes nothing.
+-- `silk_signals::frame_4khz` meets its contract.
 use mathlib.Core.Path.{_∙_}
 use Prim.Native.Nat.{_/_}
 use borrow.Author.Needs.{needs}

@@ -1,4 +1,4 @@
--- `silk_signals::frame_8khz` meets its contract: each way fills the buffer with the signal of its rate. Assumes nothing.
+-- `silk_signals::frame_8khz` meets its contract: each way fills the buffer with the signal of its rate.
 use mathlib.Core.Path.{_≡_, sym, ap, _∙_}
 use mathlib.Core.List.{List}
 use native.Mathlib.Omega.{arith}
@@ -37,26 +37,17 @@ held : (s : tie.Start) {e out : List ℤ} → out ≡ headed e (s .args .out .no
     → out ≡ headed (eight (s .args .fs-khz) (s .args .frame .now)) (s .args .out .now)
 held s h q = h ∙ ap (λ (t : List ℤ). headed t (s .args .out .now)) (sym q)
 
-same-length : tie.Need-same-length
-same-length c = search needs
-
 returns : tie.Need-returns
 returns c =
     let d = c .before in
     let s = d .before .before .before in
     held s (d .halve-into .ensures) (eight-16 (s .args .fs-khz) (s .args .frame .now) (d .before .before .if1 .taken))
 
-same-length-2 : tie.Need-same-length-2
-same-length-2 c = search needs
-
 returns-2 : tie.Need-returns-2
 returns-2 c =
     let d = c .before in
     let s = d .before .before .before .before in
     held s (d .two-thirds-into .ensures) (eight-12 (s .args .fs-khz) (s .args .frame .now) (d .before .before .if2 .taken))
-
-same-length-3 : tie.Need-same-length-3
-same-length-3 c = search needs
 
 returns-3 : tie.Need-returns-3
 returns-3 c =
@@ -67,13 +58,5 @@ returns-3 c =
 pub frame-8khz-spec : {M : Type 1} → statement M
 frame-8khz-spec =
     tie.close
-    (tie.spec
-    halve-into-requires
-    two-thirds-into-requires
-    copy-into-requires
-    same-length
-    returns
-    same-length-2
-    returns-2
-    same-length-3
-    returns-3)
+    (tie.spec halve-into-requires two-thirds-into-requires copy-into-requires (λ c. search needs) returns (λ c. search needs) returns-2
+    (λ c. search needs) returns-3)

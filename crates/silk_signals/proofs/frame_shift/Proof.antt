@@ -1,4 +1,4 @@
--- `silk_signals::frame_shift` meets its contract. Assumes nothing.
+-- `silk_signals::frame_shift` meets its contract.
 use mathlib.Core.Path.{ap, ap₂, _∙_}
 use Prim.Native.Nat.{ℕ, _+_, _/_, _<_}
 use native.Mathlib.Omega.{arith}

@@ -1,4 +1,4 @@
--- `silk_signals::halve_into` meets its contract. Assumes nothing.
+-- `silk_signals::halve_into` meets its contract.
 use mathlib.Core.Path.{_∙_}
 use Prim.Native.Nat.{_/_}
 use borrow.Author.Needs.{needs}
@@ -10,15 +10,6 @@ use Rattle.lists.specs.Push.{filled-headed}
 use Rattle.silk_signals.proofs.halve_into.Statement.{statement}
 use Rattle.silk_signals.proofs.halve_into.Tie as tie
 
-slice-aggregate-silk-resampler-down2 : tie.Need-slice-aggregate-silk-resampler-down2
-slice-aggregate-silk-resampler-down2 c = search needs
-
-silk-resampler-down2-requires : tie.Need-silk-resampler-down2-requires
-silk-resampler-down2-requires c κs = search needs
-
-same-length : tie.Need-same-length
-same-length c = search needs
-
 returns : tie.Need-returns
 unfolding down2 sample
 returns c =
@@ -29,8 +20,4 @@ returns c =
 pub halve-into-spec : {M : Type 1} → statement M
 halve-into-spec =
     tie.close
-    (tie.spec
-    slice-aggregate-silk-resampler-down2
-    silk-resampler-down2-requires
-    same-length
-    returns)
+    (tie.spec (λ c. search needs) (λ c κs. search needs) (λ c. search needs) returns)

@@ -1,4 +1,4 @@
--- `silk_signals::scale_into` meets its contract. Assumes nothing.
+-- `silk_signals::scale_into` meets its contract.
 use mathlib.Core.Path.{_≡_, refl, sym, ap, _∙_}
 use mathlib.Core.Logic.{⊎-elim}
 use Prim.Native.Nat.{ℕ, _^_, _≤_, _-_}
@@ -32,30 +32,6 @@ loop-holds c =
     let e = counted c in
     (e, (omega (arith, moved-le (a .shift) (a .n)), (omega arith, (refl, filled-none _ _))))
 
-mul-scratch : tie.Need-mul-scratch Inv-loop μ-loop
-mul-scratch c = search zneeds
-
-shared-slice-copy-out-scratch : tie.Need-shared-slice-copy-out-scratch Inv-loop μ-loop
-shared-slice-copy-out-scratch c = search zneeds
-
-cast-scratch : tie.Need-cast-scratch Inv-loop μ-loop
-cast-scratch c = search zneeds
-
-shr-scratch : tie.Need-shr-scratch Inv-loop μ-loop
-shr-scratch c = search zneeds
-
-mul-t15 : tie.Need-mul-t15 Inv-loop μ-loop
-mul-t15 c = search zneeds
-
-slice-set-from-scratch : tie.Need-slice-set-from-scratch Inv-loop μ-loop
-slice-set-from-scratch c = search zneeds
-
-add-i : tie.Need-add-i Inv-loop μ-loop
-add-i c = search zneeds
-
-loop-less : tie.Need-loop-less Inv-loop μ-loop
-loop-less c = search zneeds
-
 loop-again : tie.Need-loop-again Inv-loop μ-loop
 unfolding shifted-at sample
 loop-again c =
@@ -77,9 +53,6 @@ loop-again c =
       ),
     )
 
-same-length : tie.Need-same-length Inv-loop μ-loop
-same-length c = search zneeds
-
 returns : tie.Need-returns Inv-loop μ-loop
 returns c =
     let s = c .before in
@@ -90,18 +63,5 @@ returns c =
 pub scale-into-spec : {M : Type 1} → statement M
 scale-into-spec =
     tie.close
-    (tie.spec
-    Inv-loop
-    μ-loop
-    loop-holds
-    mul-scratch
-    shared-slice-copy-out-scratch
-    cast-scratch
-    shr-scratch
-    mul-t15
-    slice-set-from-scratch
-    add-i
-    loop-less
-    loop-again
-    same-length
-    returns)
+    (tie.spec Inv-loop μ-loop loop-holds (λ c. search zneeds) (λ c. search zneeds) (λ c. search zneeds) (λ c. search zneeds) (λ c. search zneeds)
+    (λ c. search zneeds) (λ c. search zneeds) (λ c. search zneeds) loop-again (λ c. search zneeds) returns)

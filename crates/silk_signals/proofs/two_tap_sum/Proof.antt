@@ -1,4 +1,4 @@
--- `silk_signals::two_tap_sum` meets its contract. Assumes nothing.
+-- `silk_signals::two_tap_sum` meets its contract.
 use mathlib.Core.Path.{_≡_, refl, sym, ap, ap₂, _∙_}
 use mathlib.Core.List.{List}
 use Prim.Native.Nat.{ℕ, _≤_, _<_, _-_}
@@ -25,36 +25,6 @@ abbrev μ-loop : tie.MeasureT-loop
 loop-holds : tie.Need-loop-holds Inv-loop μ-loop
 loop-holds c = (search zneeds, (refl, from-none _ _ _))
 
-sub-i : tie.Need-sub-i Inv-loop μ-loop
-sub-i c = search zneeds
-
-mul-silk-add-sat16 : tie.Need-mul-silk-add-sat16 Inv-loop μ-loop
-mul-silk-add-sat16 c = search zneeds
-
-slice-copy-out-silk-add-sat16 : tie.Need-slice-copy-out-silk-add-sat16 Inv-loop μ-loop
-slice-copy-out-silk-add-sat16 c = search zneeds
-
-sub-silk-add-sat16 : tie.Need-sub-silk-add-sat16 Inv-loop μ-loop
-sub-silk-add-sat16 c = search zneeds
-
-mul-silk-add-sat16-2 : tie.Need-mul-silk-add-sat16-2 Inv-loop μ-loop
-mul-silk-add-sat16-2 c = search zneeds
-
-slice-copy-out-silk-add-sat16-2 : tie.Need-slice-copy-out-silk-add-sat16-2 Inv-loop μ-loop
-slice-copy-out-silk-add-sat16-2 c = search zneeds
-
-silk-add-sat16-requires : tie.Need-silk-add-sat16-requires Inv-loop μ-loop
-silk-add-sat16-requires c κs = search zneeds
-
-mul-sum : tie.Need-mul-sum Inv-loop μ-loop
-mul-sum c = search zneeds
-
-slice-set-from-sum : tie.Need-slice-set-from-sum Inv-loop μ-loop
-slice-set-from-sum c = search zneeds
-
-loop-less : tie.Need-loop-less Inv-loop μ-loop
-loop-less c = search zneeds
-
 loop-again : tie.Need-loop-again Inv-loop μ-loop
 unfolding sample
 loop-again c =
@@ -76,9 +46,6 @@ loop-again c =
       ),
     )
 
-same-length : tie.Need-same-length Inv-loop μ-loop
-same-length c = search zneeds
-
 returns : tie.Need-returns Inv-loop μ-loop
 unfolding two-tap sample
 returns c =
@@ -89,20 +56,6 @@ returns c =
 pub two-tap-sum-spec : {M : Type 1} → statement M
 two-tap-sum-spec =
     tie.close
-    (tie.spec
-    Inv-loop
-    μ-loop
-    loop-holds
-    sub-i
-    mul-silk-add-sat16
-    slice-copy-out-silk-add-sat16
-    sub-silk-add-sat16
-    mul-silk-add-sat16-2
-    slice-copy-out-silk-add-sat16-2
-    silk-add-sat16-requires
-    mul-sum
-    slice-set-from-sum
-    loop-less
-    loop-again
-    same-length
+    (tie.spec Inv-loop μ-loop loop-holds (λ c. search zneeds) (λ c. search zneeds) (λ c. search zneeds) (λ c. search zneeds) (λ c. search zneeds)
+    (λ c. search zneeds) (λ c κs. search zneeds) (λ c. search zneeds) (λ c. search zneeds) (λ c. search zneeds) loop-again (λ c. search zneeds)
     returns)

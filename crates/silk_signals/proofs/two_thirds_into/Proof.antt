@@ -1,4 +1,4 @@
--- `silk_signals::two_thirds_into` meets its contract. Assumes nothing.
+-- `silk_signals::two_thirds_into` meets its contract.
 use mathlib.Core.Path.{_∙_}
 use Prim.Native.Nat.{_*_, _/_}
 use borrow.Author.Needs.{needs}
@@ -7,15 +7,6 @@ use Rattle.silk_resampler.specs.Down23.{down2-3}
 use Rattle.lists.specs.Push.{filled-headed}
 use Rattle.silk_signals.proofs.two_thirds_into.Statement.{statement}
 use Rattle.silk_signals.proofs.two_thirds_into.Tie as tie
-
-slice-aggregate-silk-resampler-down2-3 : tie.Need-slice-aggregate-silk-resampler-down2-3
-slice-aggregate-silk-resampler-down2-3 c = search needs
-
-silk-resampler-down2-3-requires : tie.Need-silk-resampler-down2-3-requires
-silk-resampler-down2-3-requires c κs = search needs
-
-same-length : tie.Need-same-length
-same-length c = search needs
 
 returns : tie.Need-returns
 unfolding down2-3
@@ -27,8 +18,4 @@ returns c =
 pub two-thirds-into-spec : {M : Type 1} → statement M
 two-thirds-into-spec =
     tie.close
-    (tie.spec
-    slice-aggregate-silk-resampler-down2-3
-    silk-resampler-down2-3-requires
-    same-length
-    returns)
+    (tie.spec (λ c. search needs) (λ c κs. search needs) (λ c. search needs) returns)

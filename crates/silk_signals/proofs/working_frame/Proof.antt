@@ -1,4 +1,4 @@
--- `silk_signals::working_frame` meets its contract. Assumes nothing.
+-- `silk_signals::working_frame` meets its contract.
 use mathlib.Core.Path.{sym, ap}
 use mathlib.Core.List.{List}
 use native.Mathlib.Omega.{arith}

@@ -1,4 +1,4 @@
--- `silk_stage2::answer` meets its contract. Assumes nothing.
+-- `silk_stage2::answer` meets its contract.
 use mathlib.Core.Path.{_≡_, sym, ap, ap₂, _∙_}
 use mathlib.Core.Bool.{Bool, cond}
 use Prim.Native.Nat.{_≤_}

@@ -1,4 +1,4 @@
--- `silk_stage2::best_contour` meets its contract. Assumes nothing.
+-- `silk_stage2::best_contour` meets its contract.
 use mathlib.Core.Path.{_≡_, sym, subst, subst₂}
 use mathlib.Core.Logic.{⊎-elim}
 use Prim.Native.Nat.{ℕ, _+_, _-_, _≤_}
@@ -28,12 +28,6 @@ loop-holds c = let f = c .contour-sum in (omega arith, (omega arith, leads-first
 contour-sum-requires-2 : tie.Need-contour-sum-requires-2 Inv-loop μ-loop
 contour-sum-requires-2 c κs = (c .before .before .before .pre .0, omega arith)
 
-add-i : tie.Need-add-i Inv-loop μ-loop
-add-i c = search zneeds
-
-loop-less : tie.Need-loop-less Inv-loop μ-loop
-loop-less c = search zneeds
-
 loop-again : tie.Need-loop-again Inv-loop μ-loop
 loop-again c =
     let s = c .before .before .before in
@@ -62,13 +56,4 @@ returns c =
 pub best-contour-spec : {M : Type 1} → statement M
 best-contour-spec =
     tie.close
-    (tie.spec
-    Inv-loop
-    μ-loop
-    contour-sum-requires
-    loop-holds
-    contour-sum-requires-2
-    add-i
-    loop-less
-    loop-again
-    returns)
+    (tie.spec Inv-loop μ-loop contour-sum-requires loop-holds contour-sum-requires-2 (λ c. search zneeds) (λ c. search zneeds) loop-again returns)

@@ -1,4 +1,4 @@
--- `silk_stage2::biased_score` meets its contract. Assumes nothing.
+-- `silk_stage2::biased_score` meets its contract.
 use mathlib.Core.Path.{_∙_}
 use Prim.Native.Nat.{_*_}
 use native.Mathlib.Omega.{arith}
@@ -15,24 +15,6 @@ use Rattle.silk_stage2.specs.ScoreLaws.{log-small, distance-low, distanc
 use Rattle.zint.specs.Rules.{zneeds}
 use Rattle.silk_stage2.proofs.biased_score.Statement.{statement}
 use Rattle.silk_stage2.proofs.biased_score.Tie as tie
-
-cast-silk-lin2log : tie.Need-cast-silk-lin2log
-cast-silk-lin2log c = search zneeds
-
-silk-lin2log-requires : tie.Need-silk-lin2log-requires
-silk-lin2log-requires c κs = search zneeds
-
-mul-silk-smulbb : tie.Need-mul-silk-smulbb
-mul-silk-smulbb c = search zneeds
-
-cast-silk-smulbb : tie.Need-cast-silk-smulbb
-cast-silk-smulbb c = search zneeds
-
-silk-smulbb-requires : tie.Need-silk-smulbb-requires
-silk-smulbb-requires c κs = search zneeds
-
-silk-rshift-requires : tie.Need-silk-rshift-requires
-silk-rshift-requires c κs = search zneeds
 
 -- the numbers on the way, and that they fit
 module _ (s : tie.Start) where
@@ -109,16 +91,5 @@ returns-2 c =
 pub biased-score-spec : {M : Type 1} → statement M
 biased-score-spec =
     tie.close
-    (tie.spec
-    cast-silk-lin2log
-    silk-lin2log-requires
-    mul-silk-smulbb
-    cast-silk-smulbb
-    silk-smulbb-requires
-    silk-rshift-requires
-    sub-cc-max-new-b
-    distance-q7-requires
-    prev-lag-bias-requires
-    sub-result
-    returns
-    returns-2)
+    (tie.spec (λ c. search zneeds) (λ c κs. search zneeds) (λ c. search zneeds) (λ c. search zneeds) (λ c κs. search zneeds) (λ c κs. search zneeds)
+    sub-cc-max-new-b distance-q7-requires prev-lag-bias-requires sub-result returns returns-2)

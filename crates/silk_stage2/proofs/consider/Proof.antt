@@ -1,4 +1,4 @@
--- `silk_stage2::consider` meets its contract. Assumes nothing.
+-- `silk_stage2::consider` meets its contract.
 use mathlib.Core.Path.{_≡_, ap₂, _∙_}
 use mathlib.Core.Bool.{true, false}
 use lib.IntN.{ℤ}

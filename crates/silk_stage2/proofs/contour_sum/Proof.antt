@@ -1,4 +1,4 @@
--- `silk_stage2::contour_sum` meets its contract. Assumes nothing.
+-- `silk_stage2::contour_sum` meets its contract.
 use mathlib.Core.List.{List}
 use mathlib.Core.Path.{_≡_, refl, sym, ap, ap₂, _∙_}
 use Prim.Native.Nat.{ℕ, _+_, _-_, _≤_, _<_}
@@ -26,9 +26,6 @@ abbrev μ-loop : tie.MeasureT-loop
 loop-holds : tie.Need-loop-holds Inv-loop μ-loop
 unfolding sum
 loop-holds c = (omega arith, refl)
-
-cast-d-subfr : tie.Need-cast-d-subfr Inv-loop μ-loop
-cast-d-subfr c = search zneeds
 
 lag-cb-stage2-requires : tie.Need-lag-cb-stage2-requires Inv-loop μ-loop
 lag-cb-stage2-requires c κs = let s = c .before .before in (s .pre .0 .subframes, (omega arith, s .pre .1))
@@ -75,14 +72,8 @@ cast-d-subfr-2 c =
 sub-cc : tie.Need-sub-cc Inv-loop μ-loop
 sub-cc c = omega (arith, lag-is c, lag-in c)
 
-mul-cc : tie.Need-mul-cc Inv-loop μ-loop
-mul-cc c = search zneeds
-
 mul-cc-2 : tie.Need-mul-cc-2 Inv-loop μ-loop
 mul-cc-2 c = record { fits = omega (arith, lag-is c, lag-in c) }
-
-index-1-cc : tie.Need-index-1-cc Inv-loop μ-loop
-index-1-cc c = search zneeds
 
 index-2-cc : tie.Need-index-2-cc Inv-loop μ-loop
 index-2-cc c = omega (arith, lag-is c, lag-in c)
@@ -126,12 +117,6 @@ cast-cc c = f-cast (r-var (element-fits c)) (widen-16-32 (element-fits c))
 add-cc : tie.Need-add-cc Inv-loop μ-loop
 add-cc c = fit-as (sum-fits c) (ap₂ _+ℤ_ (c .before .before .before .loop .inv .1) (element-read c .val))
 
-add-i : tie.Need-add-i Inv-loop μ-loop
-add-i c = search zneeds
-
-loop-less : tie.Need-loop-less Inv-loop μ-loop
-loop-less c = search zneeds
-
 loop-again : tie.Need-loop-again Inv-loop μ-loop
 loop-again c =
     let s = c .before .before .before in
@@ -149,22 +134,5 @@ returns c =
 pub contour-sum-spec : {M : Type 1} → statement M
 contour-sum-spec =
     tie.close
-    (tie.spec
-    Inv-loop
-    μ-loop
-    loop-holds
-    cast-d-subfr
-    lag-cb-stage2-requires
-    add-d-subfr
-    cast-d-subfr-2
-    sub-cc
-    mul-cc
-    mul-cc-2
-    index-1-cc
-    index-2-cc
-    cast-cc
-    add-cc
-    add-i
-    loop-less
-    loop-again
-    returns)
+    (tie.spec Inv-loop μ-loop loop-holds (λ c. search zneeds) lag-cb-stage2-requires add-d-subfr cast-d-subfr-2 sub-cc (λ c. search zneeds) mul-cc-2
+    (λ c. search zneeds) index-2-cc cast-cc add-cc (λ c. search zneeds) (λ c. search zneeds) loop-again returns)

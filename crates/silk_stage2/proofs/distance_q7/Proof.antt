@@ -1,4 +1,4 @@
--- `silk_stage2::distance_q7` meets its contract. Assumes nothing.
+-- `silk_stage2::distance_q7` meets its contract.
 use lib.IntN.{ℤ, _-ℤ_}
 use lib.Signed.{shrZ}
 use mir.Syntax.{w32}

@@ -1,4 +1,4 @@
--- `silk_stage2::pick_lag` meets its contract. Assumes nothing.
+-- `silk_stage2::pick_lag` meets its contract.
 use mathlib.Core.Path.{_≡_, refl, sym, ap, _∙_, subst₂, transport}
 use Prim.Native.Nat.{_+_, _-_, _≤_}
 use native.Mathlib.Omega.{arith}
@@ -23,15 +23,6 @@ abbrev μ-loop : tie.MeasureT-loop
 μ-loop c-8khz kept nb-subfr nb-cbk-search search-thres2-q13 prev-lag-8khz prev-corr thres prev-lag-log2-q7 best₀ d₀ best d =
     144 - d
 
-cast-silk-smulbb : tie.Need-cast-silk-smulbb Inv-loop μ-loop
-cast-silk-smulbb c = search zneeds
-
-silk-smulbb-requires : tie.Need-silk-smulbb-requires Inv-loop μ-loop
-silk-smulbb-requires c κs = search zneeds
-
-silk-lin2log-requires : tie.Need-silk-lin2log-requires Inv-loop μ-loop
-silk-lin2log-requires c κs = search zneeds
-
 loop-holds : tie.Need-loop-holds Inv-loop μ-loop
 loop-holds c =
     let s = c .before .before .before in
@@ -54,12 +45,6 @@ try-lag-requires c κs =
       ),
       (h .lags, l .inv .1 .1 .1 .0),
     )
-
-add-d : tie.Need-add-d Inv-loop μ-loop
-add-d c = search zneeds
-
-loop-less : tie.Need-loop-less Inv-loop μ-loop
-loop-less c = search zneeds
 
 loop-again : tie.Need-loop-again Inv-loop μ-loop
 loop-again c =
@@ -91,15 +76,5 @@ returns c =
 pub pick-lag-spec : {M : Type 1} → statement M
 pick-lag-spec =
     tie.close
-    (tie.spec
-    Inv-loop
-    μ-loop
-    cast-silk-smulbb
-    silk-smulbb-requires
-    silk-lin2log-requires
-    loop-holds
-    try-lag-requires
-    add-d
-    loop-less
-    loop-again
-    returns)
+    (tie.spec Inv-loop μ-loop (λ c. search zneeds) (λ c κs. search zneeds) (λ c κs. search zneeds) loop-holds try-lag-requires (λ c. search zneeds)
+    (λ c. search zneeds) loop-again returns)

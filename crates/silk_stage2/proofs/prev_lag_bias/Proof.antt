@@ -1,4 +1,4 @@
--- `silk_stage2::prev_lag_bias` meets its contract. Assumes nothing.
+-- `silk_stage2::prev_lag_bias` meets its contract.
 use mathlib.Core.Path.{_≡_, sym, ap, _∙_}
 use Prim.Native.Nat.{_+_, _*_}
 use native.Mathlib.Omega.{arith}
@@ -16,21 +16,6 @@ use Rattle.silk_stage2.specs.ScoreLaws.{divisor-is, quot-bias-le}
 use Rattle.zint.specs.Rules.{zneeds}
 use Rattle.silk_stage2.proofs.prev_lag_bias.Statement.{statement}
 use Rattle.silk_stage2.proofs.prev_lag_bias.Tie as tie
-
-mul-silk-smulbb : tie.Need-mul-silk-smulbb
-mul-silk-smulbb c = search zneeds
-
-cast-silk-smulbb : tie.Need-cast-silk-smulbb
-cast-silk-smulbb c = search zneeds
-
-silk-smulbb-requires : tie.Need-silk-smulbb-requires
-silk-smulbb-requires c κs = search zneeds
-
-silk-rshift-requires : tie.Need-silk-rshift-requires
-silk-rshift-requires c κs = search zneeds
-
-silk-mul-requires : tie.Need-silk-mul-requires
-silk-mul-requires c κs = search zneeds
 
 -- the product and the divisor
 shifted : (c : tie.After-silk-rshift) → Reads w32 (ofZ w32 (c .silk-rshift .result)) (shrZ (smulbb (pos (c .before .before .args .nb-subfr * 1638)) (c .before .before .args .prev-corr)) 32768)
@@ -68,12 +53,5 @@ returns c = r-call2 w32 quotZ (c .silk-div32 .ok) (product (c .before)) (more (c
 pub prev-lag-bias-spec : {M : Type 1} → statement M
 prev-lag-bias-spec =
     tie.close
-    (tie.spec
-    mul-silk-smulbb
-    cast-silk-smulbb
-    silk-smulbb-requires
-    silk-rshift-requires
-    silk-mul-requires
-    add-silk-div32
-    silk-div32-requires
-    returns)
+    (tie.spec (λ c. search zneeds) (λ c. search zneeds) (λ c κs. search zneeds) (λ c κs. search zneeds) (λ c κs. search zneeds) add-silk-div32
+    silk-div32-requires returns)

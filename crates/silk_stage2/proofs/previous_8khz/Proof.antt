@@ -1,4 +1,4 @@
--- `silk_stage2::previous_8khz` meets its contract. Assumes nothing.
+-- `silk_stage2::previous_8khz` meets its contract.
 use mathlib.Core.Path.{_≡_, ap, _∙_}
 use mathlib.Core.Bool.{true}
 use Prim.Native.Nat.{ℕ}

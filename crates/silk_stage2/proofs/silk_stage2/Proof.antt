@@ -1,4 +1,4 @@
--- `silk_stage2::silk_stage2` meets its contract. Assumes nothing.
+-- `silk_stage2::silk_stage2` meets its contract.
 use mathlib.Core.Path.{_≡_, sym, ap, _∙_, subst}
 use mathlib.Core.Bool.{Bool, false}
 use mathlib.Core.List.{List}
@@ -32,9 +32,6 @@ Inv-loop frame-8khz kept fs-khz nb-subfr complexity search-thres2-q13 prev-lag p
 abbrev μ-loop : tie.MeasureT-loop
 μ-loop frame-8khz kept fs-khz nb-subfr complexity search-thres2-q13 prev-lag prev-corr marks c-8khz₀ k₀ c-8khz k =
     nb-subfr - k
-
-measured-lags-requires : tie.Need-measured-lags-requires Inv-loop μ-loop
-measured-lags-requires c κs = search zneeds
 
 loop-holds : tie.Need-loop-holds Inv-loop μ-loop
 unfolding rows
@@ -78,12 +75,6 @@ mul-c-8khz c = omega (arith, two-to-four (start (c .before .before) .pre .subfra
 
 array-set-from-c-8khz : tie.Need-array-set-from-c-8khz Inv-loop μ-loop
 array-set-from-c-8khz c = omega (arith, two-to-four (start (c .before .before) .pre .subframes))
-
-add-k : tie.Need-add-k Inv-loop μ-loop
-add-k c = search zneeds
-
-loop-less : tie.Need-loop-less Inv-loop μ-loop
-loop-less c = search zneeds
 
 loop-again : tie.Need-loop-again Inv-loop μ-loop
 unfolding rows
@@ -134,17 +125,5 @@ returns-2 c =
 pub silk-stage2-spec : {M : Type 1} → statement M
 silk-stage2-spec =
     tie.close
-    (tie.spec
-    Inv-loop
-    μ-loop
-    measured-lags-requires
-    loop-holds
-    subframe-row-requires
-    returns
-    mul-c-8khz
-    array-set-from-c-8khz
-    add-k
-    loop-less
-    loop-again
-    winner-requires
-    returns-2)
+    (tie.spec Inv-loop μ-loop (λ c κs. search zneeds) loop-holds subframe-row-requires returns mul-c-8khz array-set-from-c-8khz (λ c. search zneeds)
+    (λ c. search zneeds) loop-again winner-requires returns-2)

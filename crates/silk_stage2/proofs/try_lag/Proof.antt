@@ -1,4 +1,4 @@
--- `silk_stage2::try_lag` meets its contract. Assumes nothing.
+-- `silk_stage2::try_lag` meets its contract.
 use mathlib.Core.Path.{_≡_, sym, ap, _∙_}
 use Prim.Native.Nat.{ℕ}
 use lib.IntN.{ℤ}
@@ -13,12 +13,6 @@ use Rattle.silk_stage2.specs.Searched.{at2, along, considered, tried-lis
 use Rattle.zint.specs.Rules.{zneeds}
 use Rattle.silk_stage2.proofs.try_lag.Statement.{statement}
 use Rattle.silk_stage2.proofs.try_lag.Tie as tie
-
-is-listed-requires : tie.Need-is-listed-requires
-is-listed-requires c κs = search zneeds
-
-best-contour-requires : tie.Need-best-contour-requires
-best-contour-requires c κs = search zneeds
 
 -- the lag's sum, as the code holds it
 module _ (c : tie.After-struct-told) where
@@ -49,9 +43,6 @@ biased-score-requires c κs =
     rw (summed c, prev-log c)
     (lag-small (array c) (s .args .nb-subfr) (s .args .d) (h .small) (h .low) (h .high) (s .args .nb-cbk-search) (h .at-most), (h .at-most, (h .high, log-small (s .args .prev-lag-8khz))))
 
-consider-requires : tie.Need-consider-requires
-consider-requires c κs = search zneeds
-
 returns : tie.Need-returns
 unfolding score
 returns c =
@@ -70,10 +61,4 @@ returns-2 c = let a = c .before .before .before .args in tried-not (at2 (a .c-8k
 pub try-lag-spec : {M : Type 1} → statement M
 try-lag-spec =
     tie.close
-    (tie.spec
-    is-listed-requires
-    best-contour-requires
-    biased-score-requires
-    consider-requires
-    returns
-    returns-2)
+    (tie.spec (λ c κs. search zneeds) (λ c κs. search zneeds) biased-score-requires (λ c κs. search zneeds) returns returns-2)

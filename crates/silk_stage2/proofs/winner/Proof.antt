@@ -1,4 +1,4 @@
--- `silk_stage2::winner` meets its contract. Assumes nothing.
+-- `silk_stage2::winner` meets its contract.
 use mathlib.Core.Path.{ap, _∙_, transport}
 use native.Mathlib.Omega.{arith}
 use mir.Syntax.{w32}
@@ -9,12 +9,6 @@ use Rattle.silk_stage2.specs.Searched.{at2, Upto, upto-picked}
 use Rattle.zint.specs.Rules.{zneeds}
 use Rattle.silk_stage2.proofs.winner.Statement.{statement}
 use Rattle.silk_stage2.proofs.winner.Tie as tie
-
-nb-cbk-search-stage2-requires : tie.Need-nb-cbk-search-stage2-requires
-nb-cbk-search-stage2-requires c κs = search zneeds
-
-previous-8khz-requires : tie.Need-previous-8khz-requires
-previous-8khz-requires c κs = search zneeds
 
 pick-lag-requires : tie.Need-pick-lag-requires
 pick-lag-requires c κs =
@@ -44,9 +38,4 @@ returns c =
 pub winner-spec : {M : Type 1} → statement M
 winner-spec =
     tie.close
-    (tie.spec
-    nb-cbk-search-stage2-requires
-    previous-8khz-requires
-    pick-lag-requires
-    answer-requires
-    returns)
+    (tie.spec (λ c κs. search zneeds) (λ c κs. search zneeds) pick-lag-requires answer-requires returns)

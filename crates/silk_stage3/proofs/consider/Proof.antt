@@ -1,4 +1,4 @@
--- `silk_stage3::consider` meets its contract, way by way. Assumes nothing.
+-- `silk_stage3::consider` meets its contract, way by way.
 use mathlib.Core.Path.{_≡_, sym, ap, ap₂, _∙_}
 use mathlib.Core.Bool.{true, false}
 use lib.IntN.{ℤ, pos}
@@ -46,12 +46,6 @@ top c = search zneeds
 silk-div32-varq-requires : tie.Need-silk-div32-varq-requires
 silk-div32-varq-requires c κs = (leZ-yes tt, ltZ-yes tt)
 
-enum-known-q : tie.Need-enum-known-q
-enum-known-q c = search zneeds
-
-enum-told : tie.Need-enum-told
-enum-told c = search zneeds
-
 returns : tie.Need-returns
 returns c = sym (stopped _ _ _ _ _ _ _ (positive (c .before .before .before)) (sym (divided (c .before .before)) ∙ c .enum-told .given .1))
 
@@ -61,9 +55,6 @@ mark-down-requires c κs =
     let u = in-use-bounds (s .pre .1 .0) in
     let h : s .args .j < 34 = omega arith in
     r-holds (λ (x : ℤ). (pos 0 ≤ℤ x) × ((x ≤ℤ pos 68) × (s .args .j < 34))) (r-var (s .fits .contour-bias-q15)) (s .pre .0 .0, (s .pre .0 .1, h))
-
-in-reach-requires : tie.Need-in-reach-requires
-in-reach-requires c κs = search zneeds
 
 returns-2 : tie.Need-returns-2
 returns-2 c =
@@ -92,14 +83,5 @@ returns-5 c = sym (passed _ _ _ _ _ _ _ (t-above (pos 0) (r-var (c .before .fits
 pub consider-spec : {M : Type 1} → statement M
 consider-spec =
     tie.close
-    (tie.spec
-    silk-div32-varq-requires
-    enum-known-q
-    enum-told
-    returns
-    mark-down-requires
-    in-reach-requires
-    returns-2
-    returns-3
-    returns-4
-    returns-5)
+    (tie.spec silk-div32-varq-requires (λ c. search zneeds) (λ c. search zneeds) returns mark-down-requires (λ c κs. search zneeds) returns-2
+    returns-3 returns-4 returns-5)

@@ -1,4 +1,4 @@
--- `silk_stage3::sum_subframes` meets its contract. The invariant: the sum of the subframes below k. Assumes nothing.
+-- `silk_stage3::sum_subframes` meets its contract. The invariant: the sum of the subframes below k.
 use mathlib.Core.Path.{_≡_, refl, sym, ap₂, _∙_}
 use Prim.Native.Nat.{ℕ, _+_, _-_, _≤_}
 use lib.IntN.{ℤ, _+ℤ_}
@@ -24,33 +24,6 @@ loop-holds : tie.Need-loop-holds Inv-loop μ-loop
 unfolding sat-sum
 loop-holds c = (search zneeds, refl)
 
-mul-silk-add-sat32 : tie.Need-mul-silk-add-sat32 Inv-loop μ-loop
-mul-silk-add-sat32 c = search zneeds
-
-mul-silk-add-sat32-2 : tie.Need-mul-silk-add-sat32-2 Inv-loop μ-loop
-mul-silk-add-sat32-2 c = search zneeds
-
-mul-silk-add-sat32-3 : tie.Need-mul-silk-add-sat32-3 Inv-loop μ-loop
-mul-silk-add-sat32-3 c = search zneeds
-
-index-1-silk-add-sat32 : tie.Need-index-1-silk-add-sat32 Inv-loop μ-loop
-index-1-silk-add-sat32 c = search zneeds
-
-index-2-silk-add-sat32 : tie.Need-index-2-silk-add-sat32 Inv-loop μ-loop
-index-2-silk-add-sat32 c = search zneeds
-
-index-3-silk-add-sat32 : tie.Need-index-3-silk-add-sat32 Inv-loop μ-loop
-index-3-silk-add-sat32 c = search zneeds
-
-silk-add-sat32-requires : tie.Need-silk-add-sat32-requires Inv-loop μ-loop
-silk-add-sat32-requires c κs = search zneeds
-
-add-k : tie.Need-add-k Inv-loop μ-loop
-add-k c = search zneeds
-
-loop-less : tie.Need-loop-less Inv-loop μ-loop
-loop-less c = search zneeds
-
 loop-again : tie.Need-loop-again Inv-loop μ-loop
 loop-again c =
     let s = c .before .before .before in
@@ -69,18 +42,5 @@ returns c =
 pub sum-subframes-spec : {M : Type 1} → statement M
 sum-subframes-spec =
     tie.close
-    (tie.spec
-    Inv-loop
-    μ-loop
-    loop-holds
-    mul-silk-add-sat32
-    mul-silk-add-sat32-2
-    mul-silk-add-sat32-3
-    index-1-silk-add-sat32
-    index-2-silk-add-sat32
-    index-3-silk-add-sat32
-    silk-add-sat32-requires
-    add-k
-    loop-less
-    loop-again
-    returns)
+    (tie.spec Inv-loop μ-loop loop-holds (λ c. search zneeds) (λ c. search zneeds) (λ c. search zneeds) (λ c. search zneeds) (λ c. search zneeds)
+    (λ c. search zneeds) (λ c κs. search zneeds) (λ c. search zneeds) (λ c. search zneeds) loop-again returns)

@@ -1,4 +1,4 @@
--- `silk_tables::cb_lags_stage3_10_ms` meets its contract: a row of the table. Assumes nothing.
+-- `silk_tables::cb_lags_stage3_10_ms` meets its contract: a row of the table.
 use mathlib.Core.Path.{refl}
 use borrow.Author.Needs.{needs}
 use Rattle.silk_tables.specs.Tables.{cb-lags-stage3-10-ms}

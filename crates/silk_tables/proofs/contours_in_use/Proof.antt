@@ -1,4 +1,4 @@
--- `silk_tables::contours_in_use` meets its contract: the last stage's count. Assumes nothing.
+-- `silk_tables::contours_in_use` meets its contract: the last stage's count.
 use mathlib.Core.Path.{sym, _∙_}
 use Rattle.silk_tables.specs.ContourLaws.{contours-8, contours-other}
 use borrow.Author.Needs.{needs}

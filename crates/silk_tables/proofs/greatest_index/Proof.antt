@@ -1,4 +1,4 @@
--- `silk_tables::greatest_index` meets its contract: the number by the code's two tests. Assumes nothing.
+-- `silk_tables::greatest_index` meets its contract: the number by the code's two tests.
 use mathlib.Core.Path.{refl, sym}
 use borrow.Author.Tests.{eq-eqb, ne-eqb}
 use Rattle.silk_tables.specs.ContourLaws.{greatest-by}

@@ -1,4 +1,4 @@
--- `silk_tables::lag_cb_stage2` meets its contract: a lookup in the table that nb chooses. Assumes nothing.
+-- `silk_tables::lag_cb_stage2` meets its contract: a lookup in the table that nb chooses.
 use mathlib.Core.Path.{sym, _∙_}
 use Rattle.silk_tables.specs.Tables.{cb-lags-stage2, cb-lags-stage2-10-ms}
 use Rattle.silk_tables.specs.EntryLaws.{entry, wide-fits, wide-is}
@@ -8,12 +8,6 @@ use borrow.Author.Needs.{needs}
 use native.Mathlib.Omega.{arith}
 use Rattle.silk_tables.proofs.lag_cb_stage2.Statement.{statement}
 use Rattle.silk_tables.proofs.lag_cb_stage2.Tie as tie
-
-mul-result : tie.Need-mul-result
-mul-result c = search needs
-
-index-1-result : tie.Need-index-1-result
-index-1-result c = search needs
 
 index-2-result : tie.Need-index-2-result
 index-2-result c = omega (arith, entries2-4 (c .before .args .nb-subfr) (c .if1 .taken))
@@ -46,14 +40,5 @@ returns-2 c = let a = c .before .before .args in wide-is _ (c .result2 .given) �
 pub lag-cb-stage2-spec : {M : Type 1} → statement M
 lag-cb-stage2-spec =
     tie.close
-    (tie.spec
-    mul-result
-    index-1-result
-    index-2-result
-    cast-result
-    mul-result-2
-    index-1-result-2
-    index-2-result-2
-    cast-result-2
-    returns
+    (tie.spec (λ c. search needs) (λ c. search needs) index-2-result cast-result mul-result-2 index-1-result-2 index-2-result-2 cast-result-2 returns
     returns-2)

@@ -1,4 +1,4 @@
--- `silk_tables::lag_range` meets its contract: a lookup in the table that nb chooses. Assumes nothing.
+-- `silk_tables::lag_range` meets its contract: a lookup in the table that nb chooses.
 use mathlib.Core.Path.{sym, ap, _∙_}
 use mathlib.Core.List.{List, []}
 use native.Mathlib.Omega.{arith}
@@ -11,33 +11,12 @@ use borrow.Author.Needs.{needs}
 use Rattle.silk_tables.proofs.lag_range.Statement.{statement}
 use Rattle.silk_tables.proofs.lag_range.Tie as tie
 
-mul-result : tie.Need-mul-result
-mul-result c = search needs
-
-mul-result-2 : tie.Need-mul-result-2
-mul-result-2 c = search needs
-
-index-1-result : tie.Need-index-1-result
-index-1-result c = search needs
-
-index-2-result : tie.Need-index-2-result
-index-2-result c = search needs
-
-index-3-result : tie.Need-index-3-result
-index-3-result c = search needs
-
 cast-result : tie.Need-cast-result
 unfolding lag-range-stage3
 cast-result c = let a = c .before .before .args in wide-fits (entry (getD lag-range-stage3 (a .complexity) []) (a .k) (a .end)) (c .result .given)
 
-mul-result-3 : tie.Need-mul-result-3
-mul-result-3 c = search needs
-
 index-1-result-2 : tie.Need-index-1-result-2
 index-1-result-2 c = let e = two-of (c .before .pre .0) (c .if1 .left) in omega arith
-
-index-2-result-2 : tie.Need-index-2-result-2
-index-2-result-2 c = search needs
 
 cast-result-2 : tie.Need-cast-result-2
 unfolding lag-range-stage3-10-ms
@@ -58,16 +37,5 @@ returns-2 c =
 pub lag-range-spec : {M : Type 1} → statement M
 lag-range-spec =
     tie.close
-    (tie.spec
-    mul-result
-    mul-result-2
-    index-1-result
-    index-2-result
-    index-3-result
-    cast-result
-    mul-result-3
-    index-1-result-2
-    index-2-result-2
-    cast-result-2
-    returns
-    returns-2)
+    (tie.spec (λ c. search needs) (λ c. search needs) (λ c. search needs) (λ c. search needs) (λ c. search needs) cast-result (λ c. search needs)
+    index-1-result-2 (λ c. search needs) cast-result-2 returns returns-2)

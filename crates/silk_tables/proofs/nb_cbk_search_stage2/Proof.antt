@@ -1,4 +1,4 @@
--- `silk_tables::nb_cbk_search_stage2` meets its contract: the count by the code's three tests. Assumes nothing.
+-- `silk_tables::nb_cbk_search_stage2` meets its contract: the count by the code's three tests.
 use mathlib.Core.Path.{refl, sym}
 use mathlib.Core.Logic.{⊎-elim}
 use borrow.Author.Tests.{eq-eqb, ne-eqb}

@@ -1,4 +1,4 @@
--- `stage2_correlations::correlate` meets its contract. Assumes nothing.
+-- `stage2_correlations::correlate` meets its contract.
 use mathlib.Core.Path.{sym, ap, ap₂, _∙_}
 use mathlib.Core.Bool.{Bool, false, cond}
 use mathlib.Core.List.{List}
@@ -14,39 +14,6 @@ use Rattle.stage2_correlations.specs.Rows.{ratio-of, at-lag}
 use Rattle.zint.specs.Rules.{zneeds}
 use Rattle.stage2_correlations.proofs.correlate.Statement.{statement}
 use Rattle.stage2_correlations.proofs.correlate.Tie as tie
-
-sub-basis : tie.Need-sub-basis
-sub-basis c = search zneeds
-
-mul-silk-inner-prod-aligned : tie.Need-mul-silk-inner-prod-aligned
-mul-silk-inner-prod-aligned c = search zneeds
-
-sub-silk-inner-prod-aligned : tie.Need-sub-silk-inner-prod-aligned
-sub-silk-inner-prod-aligned c = search zneeds
-
-part-silk-inner-prod-aligned-start : tie.Need-part-silk-inner-prod-aligned-start
-part-silk-inner-prod-aligned-start c = search zneeds
-
-part-silk-inner-prod-aligned-end : tie.Need-part-silk-inner-prod-aligned-end
-part-silk-inner-prod-aligned-end c = search zneeds
-
-mul-silk-inner-prod-aligned-2 : tie.Need-mul-silk-inner-prod-aligned-2
-mul-silk-inner-prod-aligned-2 c = search zneeds
-
-sub-silk-inner-prod-aligned-2 : tie.Need-sub-silk-inner-prod-aligned-2
-sub-silk-inner-prod-aligned-2 c = search zneeds
-
-part-silk-inner-prod-aligned-start-2 : tie.Need-part-silk-inner-prod-aligned-start-2
-part-silk-inner-prod-aligned-start-2 c = search zneeds
-
-part-silk-inner-prod-aligned-end-2 : tie.Need-part-silk-inner-prod-aligned-end-2
-part-silk-inner-prod-aligned-end-2 c = search zneeds
-
-silk-inner-prod-aligned-requires : tie.Need-silk-inner-prod-aligned-requires
-silk-inner-prod-aligned-requires c κs = search zneeds
-
-divide-requires : tie.Need-divide-requires
-divide-requires c κs = search zneeds
 
 returns : tie.Need-returns
 unfolding at-lag
@@ -70,17 +37,5 @@ returns-2 c =
 pub correlate-spec : {M : Type 1} → statement M
 correlate-spec =
     tie.close
-    (tie.spec
-    sub-basis
-    mul-silk-inner-prod-aligned
-    sub-silk-inner-prod-aligned
-    part-silk-inner-prod-aligned-start
-    part-silk-inner-prod-aligned-end
-    mul-silk-inner-prod-aligned-2
-    sub-silk-inner-prod-aligned-2
-    part-silk-inner-prod-aligned-start-2
-    part-silk-inner-prod-aligned-end-2
-    silk-inner-prod-aligned-requires
-    divide-requires
-    returns
-    returns-2)
+    (tie.spec (λ c. search zneeds) (λ c. search zneeds) (λ c. search zneeds) (λ c. search zneeds) (λ c. search zneeds) (λ c. search zneeds)
+    (λ c. search zneeds) (λ c. search zneeds) (λ c. search zneeds) (λ c κs. search zneeds) (λ c κs. search zneeds) returns returns-2)

@@ -1,4 +1,4 @@
--- `stage2_correlations::divide` meets its contract. Assumes nothing.
+-- `stage2_correlations::divide` meets its contract.
 use mathlib.Core.Path.{_≡_, sym, ap, ap₂, _∙_}
 use mathlib.Core.Bool.{true, false}
 use lib.IntN.{ℤ, pos}
@@ -12,15 +12,6 @@ use Rattle.stage2_correlations.specs.RowLaws.{ratio-none, ratio-value, r
 use Rattle.zint.specs.Rules.{zneeds}
 use Rattle.stage2_correlations.proofs.divide.Statement.{statement}
 use Rattle.stage2_correlations.proofs.divide.Tie as tie
-
-silk-div32-varq-requires : tie.Need-silk-div32-varq-requires
-silk-div32-varq-requires c κs = search zneeds
-
-enum-known-q : tie.Need-enum-known-q
-enum-known-q c = search zneeds
-
-enum-told : tie.Need-enum-told
-enum-told c = search zneeds
 
 -- what was divided, and the test
 positive : (c : tie.Then1) → ltZ (pos 0) (c .before .args .cross-corr) ≡ true
@@ -40,9 +31,6 @@ value c = c .q .given .0 .0
 same : (c : tie.After-known-told) → toZ w32 (ofZ w32 (value (c .before))) ≡ value (c .before)
 same c = search zneeds
 
-as-i16-requires : tie.Need-as-i16-requires
-as-i16-requires c κs = search zneeds
-
 returns-2 : tie.Need-returns-2
 returns-2 c =
     let d = c .before .before in
@@ -55,11 +43,4 @@ returns-3 c = ratio-none _ _ (t-above (pos 0) (r-var (c .before .fits .cross-cor
 pub divide-spec : {M : Type 1} → statement M
 divide-spec =
     tie.close
-    (tie.spec
-    silk-div32-varq-requires
-    enum-known-q
-    enum-told
-    returns
-    as-i16-requires
-    returns-2
-    returns-3)
+    (tie.spec (λ c κs. search zneeds) (λ c. search zneeds) (λ c. search zneeds) returns (λ c κs. search zneeds) returns-2 returns-3)

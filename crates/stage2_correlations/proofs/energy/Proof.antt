@@ -1,4 +1,4 @@
--- `stage2_correlations::energy` meets its contract. Assumes nothing.
+-- `stage2_correlations::energy` meets its contract.
 use mathlib.Core.Path.{ap, _∙_}
 use mathlib.Core.List.{List}
 use lib.IntN.{ℤ}
@@ -12,33 +12,6 @@ use Rattle.zint.specs.Rules.{zneeds}
 use Rattle.stage2_correlations.proofs.energy.Statement.{statement}
 use Rattle.stage2_correlations.proofs.energy.Tie as tie
 
-mul-silk-inner-prod-aligned : tie.Need-mul-silk-inner-prod-aligned
-mul-silk-inner-prod-aligned c = search zneeds
-
-sub-silk-inner-prod-aligned : tie.Need-sub-silk-inner-prod-aligned
-sub-silk-inner-prod-aligned c = search zneeds
-
-part-silk-inner-prod-aligned-start : tie.Need-part-silk-inner-prod-aligned-start
-part-silk-inner-prod-aligned-start c = search zneeds
-
-part-silk-inner-prod-aligned-end : tie.Need-part-silk-inner-prod-aligned-end
-part-silk-inner-prod-aligned-end c = search zneeds
-
-mul-silk-inner-prod-aligned-2 : tie.Need-mul-silk-inner-prod-aligned-2
-mul-silk-inner-prod-aligned-2 c = search zneeds
-
-sub-silk-inner-prod-aligned-2 : tie.Need-sub-silk-inner-prod-aligned-2
-sub-silk-inner-prod-aligned-2 c = search zneeds
-
-part-silk-inner-prod-aligned-start-2 : tie.Need-part-silk-inner-prod-aligned-start-2
-part-silk-inner-prod-aligned-start-2 c = search zneeds
-
-part-silk-inner-prod-aligned-end-2 : tie.Need-part-silk-inner-prod-aligned-end-2
-part-silk-inner-prod-aligned-end-2 c = search zneeds
-
-silk-inner-prod-aligned-requires : tie.Need-silk-inner-prod-aligned-requires
-silk-inner-prod-aligned-requires c κs = search zneeds
-
 returns : tie.Need-returns
 unfolding energy-from
 returns c =
@@ -48,14 +21,5 @@ returns c =
 pub energy-spec : {M : Type 1} → statement M
 energy-spec =
     tie.close
-    (tie.spec
-    mul-silk-inner-prod-aligned
-    sub-silk-inner-prod-aligned
-    part-silk-inner-prod-aligned-start
-    part-silk-inner-prod-aligned-end
-    mul-silk-inner-prod-aligned-2
-    sub-silk-inner-prod-aligned-2
-    part-silk-inner-prod-aligned-start-2
-    part-silk-inner-prod-aligned-end-2
-    silk-inner-prod-aligned-requires
-    returns)
+    (tie.spec (λ c. search zneeds) (λ c. search zneeds) (λ c. search zneeds) (λ c. search zneeds) (λ c. search zneeds) (λ c. search zneeds)
+    (λ c. search zneeds) (λ c. search zneeds) (λ c κs. search zneeds) returns)

@@ -1,4 +1,4 @@
--- `stage2_correlations::is_listed` meets its contract. Assumes nothing.
+-- `stage2_correlations::is_listed` meets its contract.
 use mathlib.Core.Path.{sym, _∙_}
 use Rattle.stage2_correlations.specs.Marks.{listed}
 use Rattle.stage2_correlations.specs.MarkLaws.{too-low, too-high, inside}

@@ -1,4 +1,4 @@
--- `stage2_correlations::is_near` meets its contract. Assumes nothing.
+-- `stage2_correlations::is_near` meets its contract.
 use mathlib.Core.Path.{_≡_, refl, sym}
 use mathlib.Core.Bool.{false}
 use Prim.Native.Nat.{ℕ, _-_, _≤_, _<_}
@@ -21,31 +21,13 @@ abbrev μ-loop : tie.MeasureT-loop
 loop-holds : tie.Need-loop-holds Inv-loop μ-loop
 loop-holds c = (refl, (omega arith, λ q h. absurd (omega arith)))
 
-mul-v : tie.Need-mul-v Inv-loop μ-loop
-mul-v c = search zneeds
-
-shared-slice-read-v : tie.Need-shared-slice-read-v Inv-loop μ-loop
-shared-slice-read-v c = search zneeds
-
 mul-v-2 : tie.Need-mul-v-2 Inv-loop μ-loop
 mul-v-2 c =
     let s = c .before .before in
     omega (arith, s .before .pre .0 .high (s .loop .i) (omega arith))
 
-add-if1 : tie.Need-add-if1 Inv-loop μ-loop
-add-if1 c = search zneeds
-
-add-if2 : tie.Need-add-if2 Inv-loop μ-loop
-add-if2 c = search zneeds
-
 returns : tie.Need-returns Inv-loop μ-loop
 returns c = sym (near-yes _ _ _ _ (c .before .before .before .before .loop .i) (omega arith) (mark-yes _ _ _ _ _ (c .before .if1 .taken) (c .if2 .taken)))
-
-add-i : tie.Need-add-i Inv-loop μ-loop
-add-i c = search zneeds
-
-loop-less : tie.Need-loop-less Inv-loop μ-loop
-loop-less c = search zneeds
 
 loop-again : tie.Need-loop-again Inv-loop μ-loop
 loop-again c =
@@ -65,17 +47,5 @@ returns-2 c = let s = c .before in sym (near-no _ _ _ _ (λ q h. s .loop .inv .1
 pub is-near-spec : {M : Type 1} → statement M
 is-near-spec =
     tie.close
-    (tie.spec
-    Inv-loop
-    μ-loop
-    loop-holds
-    mul-v
-    shared-slice-read-v
-    mul-v-2
-    add-if1
-    add-if2
-    returns
-    add-i
-    loop-less
-    loop-again
-    returns-2)
+    (tie.spec Inv-loop μ-loop loop-holds (λ c. search zneeds) (λ c. search zneeds) mul-v-2 (λ c. search zneeds) (λ c. search zneeds) returns
+    (λ c. search zneeds) (λ c. search zneeds) loop-again returns-2)

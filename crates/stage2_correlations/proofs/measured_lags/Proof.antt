@@ -1,4 +1,4 @@
--- `stage2_correlations::measured_lags` meets its contract. Assumes nothing.
+-- `stage2_correlations::measured_lags` meets its contract.
 use mathlib.Core.Path.{_≡_, ap, _∙_}
 use mathlib.Core.Bool.{false}
 use Prim.Native.Nat.{ℕ, _+_, _-_, _≤_}
@@ -20,21 +20,6 @@ abbrev μ-loop : tie.MeasureT-loop
 loop-holds : tie.Need-loop-holds Inv-loop μ-loop
 loop-holds c = (omega arith, filled-none _ _)
 
-add-is-measured : tie.Need-add-is-measured Inv-loop μ-loop
-add-is-measured c = search zneeds
-
-is-measured-requires : tie.Need-is-measured-requires Inv-loop μ-loop
-is-measured-requires c κs = search zneeds
-
-array-write-marks : tie.Need-array-write-marks Inv-loop μ-loop
-array-write-marks c = search zneeds
-
-add-i : tie.Need-add-i Inv-loop μ-loop
-add-i c = search zneeds
-
-loop-less : tie.Need-loop-less Inv-loop μ-loop
-loop-less c = search zneeds
-
 loop-again : tie.Need-loop-again Inv-loop μ-loop
 loop-again c =
     let s = c .before .before in
@@ -51,14 +36,5 @@ returns c =
 pub measured-lags-spec : {M : Type 1} → statement M
 measured-lags-spec =
     tie.close
-    (tie.spec
-    Inv-loop
-    μ-loop
-    loop-holds
-    add-is-measured
-    is-measured-requires
-    array-write-marks
-    add-i
-    loop-less
-    loop-again
-    returns)
+    (tie.spec Inv-loop μ-loop loop-holds (λ c. search zneeds) (λ c κs. search zneeds) (λ c. search zneeds) (λ c. search zneeds) (λ c. search zneeds)
+    loop-again returns)

@@ -1,4 +1,4 @@
--- `stage2_correlations::slide` meets its contract. Assumes nothing.
+-- `stage2_correlations::slide` meets its contract.
 use mathlib.Core.Path.{_∙_}
 use lib.IntN.{ℤ, _+ℤ_, _-ℤ_, _*ℤ_}
 use mir.Syntax.{w32}
@@ -8,18 +8,6 @@ use Rattle.zint.specs.Read.{r-var, r-call1, r-call2}
 use Rattle.zint.specs.Rules.{zneeds}
 use Rattle.stage2_correlations.proofs.slide.Statement.{statement}
 use Rattle.stage2_correlations.proofs.slide.Tie as tie
-
-square-requires : tie.Need-square-requires
-square-requires c κs = search zneeds
-
-wrapping-sub-i32-requires : tie.Need-wrapping-sub-i32-requires
-wrapping-sub-i32-requires c κs = search zneeds
-
-square-requires-2 : tie.Need-square-requires-2
-square-requires-2 c κs = search zneeds
-
-wrapping-add-i32-requires : tie.Need-wrapping-add-i32-requires
-wrapping-add-i32-requires c κs = search zneeds
 
 returns : tie.Need-returns
 returns c =
@@ -32,9 +20,4 @@ returns c =
 pub slide-spec : {M : Type 1} → statement M
 slide-spec =
     tie.close
-    (tie.spec
-    square-requires
-    wrapping-sub-i32-requires
-    square-requires-2
-    wrapping-add-i32-requires
-    returns)
+    (tie.spec (λ c κs. search zneeds) (λ c κs. search zneeds) (λ c κs. search zneeds) (λ c κs. search zneeds) returns)

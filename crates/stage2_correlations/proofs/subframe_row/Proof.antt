@@ -1,4 +1,4 @@
--- `stage2_correlations::subframe_row` meets its contract. Assumes nothing.
+-- `stage2_correlations::subframe_row` meets its contract.
 use mathlib.Core.Path.{_≡_, refl, sym, ap, ap₂, _∙_}
 use mathlib.Core.List.{List}
 use mathlib.Core.Logic.{⊎-elim}
@@ -28,21 +28,9 @@ Inv-loop frame-8khz k marks target energy-target energy-basis₀ c-8khz₀ zero�
 abbrev μ-loop : tie.MeasureT-loop
 μ-loop frame-8khz k marks target energy-target energy-basis₀ c-8khz₀ zero₀ i₀ energy-basis c-8khz zero i = 132 - i
 
-mul-target : tie.Need-mul-target Inv-loop μ-loop
-mul-target c = search zneeds
-
-add-target : tie.Need-add-target Inv-loop μ-loop
-add-target c = search zneeds
-
 energy-requires : tie.Need-energy-requires Inv-loop μ-loop
 unfolding start-of
 energy-requires c κs = c .pre .1
-
-wrapping-add-i32-requires : tie.Need-wrapping-add-i32-requires Inv-loop μ-loop
-wrapping-add-i32-requires c κs = search zneeds
-
-sub-energy : tie.Need-sub-energy Inv-loop μ-loop
-sub-energy c = search zneeds
 
 energy-requires-2 : tie.Need-energy-requires-2 Inv-loop μ-loop
 unfolding start-of
@@ -57,56 +45,17 @@ loop-holds c =
     let u = r-got w32 (c .energy2 .ok) (c .energy2 .ensures) .val in
     (omega arith, (refl, (t, (u, (filled-none _ _, refl)))))
 
-wrapping-add-i32-requires-2 : tie.Need-wrapping-add-i32-requires-2 Inv-loop μ-loop
-wrapping-add-i32-requires-2 c κs = search zneeds
-
-element-copy-out-correlate : tie.Need-element-copy-out-correlate Inv-loop μ-loop
-element-copy-out-correlate c = search zneeds
-
-add-correlate : tie.Need-add-correlate Inv-loop μ-loop
-add-correlate c = search zneeds
-
 correlate-requires : tie.Need-correlate-requires Inv-loop μ-loop
 unfolding start-of
 correlate-requires c κs = (omega arith, c .before .before .before .before .before .before .before .pre .1)
-
-mul-c-8khz : tie.Need-mul-c-8khz Inv-loop μ-loop
-mul-c-8khz c = search zneeds
-
-array-set-from-c-8khz : tie.Need-array-set-from-c-8khz Inv-loop μ-loop
-array-set-from-c-8khz c = search zneeds
-
-sub-basis : tie.Need-sub-basis Inv-loop μ-loop
-sub-basis c = search zneeds
-
-sub-basis-2 : tie.Need-sub-basis-2 Inv-loop μ-loop
-sub-basis-2 c = search zneeds
-
-add-slide : tie.Need-add-slide Inv-loop μ-loop
-add-slide c = search zneeds
-
-mul-slide : tie.Need-mul-slide Inv-loop μ-loop
-mul-slide c = search zneeds
 
 shared-slice-copy-out-slide : tie.Need-shared-slice-copy-out-slide Inv-loop μ-loop
 unfolding start-of
 shared-slice-copy-out-slide c = omega (arith, c .before .before .before .before .before .before .before .before .before .before .pre .1)
 
-mul-slide-2 : tie.Need-mul-slide-2 Inv-loop μ-loop
-mul-slide-2 c = search zneeds
-
 shared-slice-copy-out-slide-2 : tie.Need-shared-slice-copy-out-slide-2 Inv-loop μ-loop
 unfolding start-of
 shared-slice-copy-out-slide-2 c = omega (arith, c .before .before .before .before .before .before .before .before .before .before .before .pre .1)
-
-slide-requires : tie.Need-slide-requires Inv-loop μ-loop
-slide-requires c κs = search zneeds
-
-add-i : tie.Need-add-i Inv-loop μ-loop
-add-i c = search zneeds
-
-loop-less : tie.Need-loop-less Inv-loop μ-loop
-loop-less c = search zneeds
 
 -- a turn: the lag's correlation, and the basis energy one lag on
 module _ (c : tie.After-correlate Inv-loop μ-loop) where
@@ -178,31 +127,7 @@ returns c =
 pub subframe-row-spec : {M : Type 1} → statement M
 subframe-row-spec =
     tie.close
-    (tie.spec
-    Inv-loop
-    μ-loop
-    mul-target
-    add-target
-    energy-requires
-    wrapping-add-i32-requires
-    sub-energy
-    energy-requires-2
-    loop-holds
-    wrapping-add-i32-requires-2
-    element-copy-out-correlate
-    add-correlate
-    correlate-requires
-    mul-c-8khz
-    array-set-from-c-8khz
-    sub-basis
-    sub-basis-2
-    add-slide
-    mul-slide
-    shared-slice-copy-out-slide
-    mul-slide-2
-    shared-slice-copy-out-slide-2
-    slide-requires
-    add-i
-    loop-less
-    loop-again
-    returns)
+    (tie.spec Inv-loop μ-loop (λ c. search zneeds) (λ c. search zneeds) energy-requires (λ c κs. search zneeds) (λ c. search zneeds) energy-requires-2
+    loop-holds (λ c κs. search zneeds) (λ c. search zneeds) (λ c. search zneeds) correlate-requires (λ c. search zneeds) (λ c. search zneeds)
+    (λ c. search zneeds) (λ c. search zneeds) (λ c. search zneeds) (λ c. search zneeds) shared-slice-copy-out-slide (λ c. search zneeds)
+    shared-slice-copy-out-slide-2 (λ c κs. search zneeds) (λ c. search zneeds) (λ c. search zneeds) loop-again returns)

@@ -1,4 +1,4 @@
--- `stage3_arrays::offset_place` meets its contract. Assumes nothing.
+-- `stage3_arrays::offset_place` meets its contract.
 use mathlib.Core.Path.{ap, _∙_}
 use lib.IntN.{ℤ, natAbs, _-ℤ_}
 use mir.Syntax.{w8, w32, w64}

@@ -1,4 +1,4 @@
--- `stage3_arrays::slide` meets its contract. Assumes nothing.
+-- `stage3_arrays::slide` meets its contract.
 use Prim.Native.Nat.{_+_, _-_, _*_}
 use lib.IntN.{ℤ, _+ℤ_, _-ℤ_, _*ℤ_}
 use mir.Syntax.{w32}
@@ -9,18 +9,6 @@ use Rattle.zint.specs.Clamp.{sat}
 use Rattle.zint.specs.Rules.{zneeds}
 use Rattle.stage3_arrays.proofs.slide.Statement.{statement}
 use Rattle.stage3_arrays.proofs.slide.Tie as tie
-
-square-requires : tie.Need-square-requires
-square-requires c κs = search zneeds
-
-wrapping-sub-i32-requires : tie.Need-wrapping-sub-i32-requires
-wrapping-sub-i32-requires c κs = search zneeds
-
-square-requires-2 : tie.Need-square-requires-2
-square-requires-2 c κs = search zneeds
-
-silk-add-sat32-requires : tie.Need-silk-add-sat32-requires
-silk-add-sat32-requires c κs = search zneeds
 
 returns : tie.Need-returns
 unfolding step
@@ -34,9 +22,4 @@ returns c =
 pub slide-spec : {M : Type 1} → statement M
 slide-spec =
     tie.close
-    (tie.spec
-    square-requires
-    wrapping-sub-i32-requires
-    square-requires-2
-    silk-add-sat32-requires
-    returns)
+    (tie.spec (λ c κs. search zneeds) (λ c κs. search zneeds) (λ c κs. search zneeds) (λ c κs. search zneeds) returns)

@@ -1,4 +1,4 @@
--- `stage3_arrays::spread` meets its contract. The invariant: the rows are filled below i. Assumes nothing.
+-- `stage3_arrays::spread` meets its contract. The invariant: the rows are filled below i.
 use mathlib.Core.Path.{_≡_, sym, ap, ap₂, _∙_, subst}
 use mathlib.Core.List.{List}
 use Prim.Native.Nat.{ℕ, _+_, _-_, _≤_}
@@ -27,9 +27,6 @@ abbrev μ-loop : tie.MeasureT-loop
 loop-holds : tie.Need-loop-holds Inv-loop μ-loop
 loop-holds c = (search zneeds, filled-none _ _)
 
-shared-slice-copy-out-offset-place : tie.Need-shared-slice-copy-out-offset-place Inv-loop μ-loop
-shared-slice-copy-out-offset-place c = search zneeds
-
 -- what the code reads of contour i's offset and of the range's start, and where the offset lies
 module _ (c : tie.After-offset-place-arg Inv-loop μ-loop) where
   abbrev offset-at : ℤ
@@ -57,18 +54,6 @@ idx-is c = c .offset-place .ensures ∙ ap₂ (λ (x y : ℤ). natAbs (x -ℤ y)
 five-requires : tie.Need-five-requires Inv-loop μ-loop
 five-requires c κs = omega (arith, idx-is c, placed (c .before) .five-more)
 
-mul-by-lag : tie.Need-mul-by-lag Inv-loop μ-loop
-mul-by-lag c = search zneeds
-
-array-set-from-by-lag : tie.Need-array-set-from-by-lag Inv-loop μ-loop
-array-set-from-by-lag c = search zneeds
-
-add-i : tie.Need-add-i Inv-loop μ-loop
-add-i c = search zneeds
-
-loop-less : tie.Need-loop-less Inv-loop μ-loop
-loop-less c = search zneeds
-
 loop-again : tie.Need-loop-again Inv-loop μ-loop
 loop-again c =
     let s = c .before .before .before .before in
@@ -90,16 +75,5 @@ returns c =
 pub spread-spec : {M : Type 1} → statement M
 spread-spec =
     tie.close
-    (tie.spec
-    Inv-loop
-    μ-loop
-    loop-holds
-    shared-slice-copy-out-offset-place
-    offset-place-requires
-    five-requires
-    mul-by-lag
-    array-set-from-by-lag
-    add-i
-    loop-less
-    loop-again
-    returns)
+    (tie.spec Inv-loop μ-loop loop-holds (λ c. search zneeds) offset-place-requires five-requires (λ c. search zneeds) (λ c. search zneeds)
+    (λ c. search zneeds) (λ c. search zneeds) loop-again returns)

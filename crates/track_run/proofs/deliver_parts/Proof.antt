@@ -1,5 +1,5 @@
 -- `track_run::deliver_parts` meets its contract. The invariant: the whole chain leaves what the rest of it leaves from here, with i answers before it.
--- Assumes nothing.
+--
 use borrow.Author.Needs.{needs}
 use mathlib.Core.Path.{_≡_, refl, sym, ap, subst, _∙_}
 use mathlib.Core.List.{List}
@@ -27,17 +27,8 @@ abbrev μ-loop : tie.MeasureT-loop
 loop-holds : tie.Need-loop-holds Inv-loop μ-loop
 loop-holds c = (omega arith, omega arith, refl, refl, ahead-none _ _)
 
-mul-lesser : tie.Need-mul-lesser Inv-loop μ-loop
-mul-lesser c = search needs
-
-shared-slice-read-lesser : tie.Need-shared-slice-read-lesser Inv-loop μ-loop
-shared-slice-read-lesser c = search needs
-
 sub-lesser : tie.Need-sub-lesser Inv-loop μ-loop
 sub-lesser c = omega arith
-
-lesser-requires : tie.Need-lesser-requires Inv-loop μ-loop
-lesser-requires c κs = search needs
 
 -- the part that is delivered, and what follows it
 module _ (c : tie.After-lesser Inv-loop μ-loop) where
@@ -85,15 +76,6 @@ part-part-start c = omega arith
 part-part-end : tie.Need-part-part-end Inv-loop μ-loop
 part-part-end c = within c
 
-deliver-requires : tie.Need-deliver-requires Inv-loop μ-loop
-deliver-requires c κs = search needs
-
-number-requires : tie.Need-number-requires Inv-loop μ-loop
-number-requires c κs = search needs
-
-mul-said : tie.Need-mul-said Inv-loop μ-loop
-mul-said c = search needs
-
 slice-write-said : tie.Need-slice-write-said Inv-loop μ-loop
 slice-write-said c = omega arith
 
@@ -138,26 +120,6 @@ returns c =
 pub deliver-parts-spec : {M : Type 1} → statement M
 deliver-parts-spec =
     tie.close
-    (tie.spec
-    Inv-loop
-    μ-loop
-    loop-holds
-    mul-lesser
-    shared-slice-read-lesser
-    sub-lesser
-    lesser-requires
-    add-end
-    mul-part
-    sub-part
-    part-part-start
-    part-part-end
-    deliver-requires
-    number-requires
-    mul-said
-    slice-write-said
-    add-i
-    loop-less
-    loop-again
-    same-length
-    same-length-2
-    returns)
+    (tie.spec Inv-loop μ-loop loop-holds (λ c. search needs) (λ c. search needs) sub-lesser (λ c κs. search needs) add-end mul-part sub-part
+    part-part-start part-part-end (λ c κs. search needs) (λ c κs. search needs) (λ c. search needs) slice-write-said add-i loop-less loop-again
+    same-length same-length-2 returns)

@@ -1,5 +1,5 @@
 -- `track_run::run` meets its contract: with settings that are accepted it is the chain of the deliveries that have a place, and else the start alone.
--- Assumes nothing.
+--
 use borrow.Author.Needs.{needs}
 use mathlib.Core.Path.{_≡_, sym, ap, _∙_}
 use mathlib.Core.List.{List, _++_}

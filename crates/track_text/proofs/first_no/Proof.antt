@@ -1,4 +1,4 @@
--- `track_text::first_no` meets its contract. Assumes nothing.
+-- `track_text::first_no` meets its contract.
 use borrow.Author.Tests.{eq-eqb, ne-eqb}
 use Rattle.track_text.specs.Program.{first-no}
 use Rattle.track_text.proofs.first_no.Statement.{statement}

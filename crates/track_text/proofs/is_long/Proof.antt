@@ -1,4 +1,4 @@
--- `track_text::is_long` meets its contract. Assumes nothing.
+-- `track_text::is_long` meets its contract.
 use mathlib.Core.Path.{ap₂, _∙_}
 use Prim.Native.Nat.{ℕ, _+_, _*_}
 use native.Mathlib.Omega.{arith}

@@ -1,4 +1,4 @@
--- `track_text::program_no` meets its contract. Assumes nothing.
+-- `track_text::program_no` meets its contract.
 use mathlib.Core.Path.{_≡_, sym, ap, _∙_}
 use Prim.Native.Nat.{_+_, _-_, _/_, _%_}
 use borrow.Author.Needs.{needs}
@@ -22,38 +22,17 @@ returns c rest e =
     let s = c .before .before in
     no-short (s .args .input .now) rest (s .args .more) e (s .pre) (c .if1 .taken)
 
-add-half : tie.Need-add-half
-add-half c = search needs
-
-settings-in-requires : tie.Need-settings-in-requires
-settings-in-requires c κs = search needs
-
-settings-no-requires : tie.Need-settings-no-requires
-settings-no-requires c κs = search needs
-
-first-no-requires : tie.Need-first-no-requires
-first-no-requires c κs = search needs
-
 returns-2 : tie.Need-returns-2
 returns-2 c rest e =
     let s = c .before .before .before .before .before .before in
     c .first-no .ensures
     ∙ no-wrong (s .args .input .now) rest (s .args .more) e (s .pre) (c .before .before .before .before .if1 .left) (c .before .before .settings-no .result) (number (c .before .before)) (c .before .if2 .taken)
 
-first-no-requires-2 : tie.Need-first-no-requires-2
-first-no-requires-2 c κs = search needs
-
 returns-3 : tie.Need-returns-3
 returns-3 c rest e =
     let s = c .before .before .before .before .before .before .before in
     c .first-no2 .ensures
     ∙ no-more (s .args .input .now) rest (s .args .more) e (s .pre) (c .before .before .before .before .before .if1 .left) (sym (number (c .before .before .before)) ∙ c .before .before .if2 .left) (c .before .if3 .taken)
-
-is-long-requires : tie.Need-is-long-requires
-is-long-requires c κs = search needs
-
-first-no-requires-3 : tie.Need-first-no-requires-3
-first-no-requires-3 c κs = search needs
 
 returns-4 : tie.Need-returns-4
 returns-4 c rest e =
@@ -66,15 +45,5 @@ returns-4 c rest e =
 pub program-no-spec : {M : Type 1} → statement M
 program-no-spec =
     tie.close
-    (tie.spec
-    returns
-    add-half
-    settings-in-requires
-    settings-no-requires
-    first-no-requires
-    returns-2
-    first-no-requires-2
-    returns-3
-    is-long-requires
-    first-no-requires-3
-    returns-4)
+    (tie.spec returns (λ c. search needs) (λ c κs. search needs) (λ c κs. search needs) (λ c κs. search needs) returns-2 (λ c κs. search needs)
+    returns-3 (λ c κs. search needs) (λ c κs. search needs) returns-4)

@@ -1,4 +1,4 @@
--- `track_text::put_head` meets its contract. Assumes nothing.
+-- `track_text::put_head` meets its contract.
 use mathlib.Core.Path.{_≡_, _∙_}
 use Prim.Native.Nat.{_≤_}
 use native.Mathlib.Omega.{arith}
@@ -55,12 +55,4 @@ returns c =
 pub put-head-spec : {M : Type 1} → statement M
 put-head-spec =
     tie.close
-    (tie.spec
-    put-digits-requires
-    slice-write-out
-    add-put-digits
-    put-digits-requires-2
-    slice-write-out-2
-    add-result
-    same-length
-    returns)
+    (tie.spec put-digits-requires slice-write-out add-put-digits put-digits-requires-2 slice-write-out-2 add-result same-length returns)

@@ -1,4 +1,4 @@
--- `track_text::put_report` meets its contract. Assumes nothing.
+-- `track_text::put_report` meets its contract.
 use mathlib.Core.Path.{ap, ap₂, _∙_}
 use Prim.Native.Nat.{_≤_}
 use native.Mathlib.Omega.{arith}
@@ -66,13 +66,5 @@ returns c =
 pub put-report-spec : {M : Type 1} → statement M
 put-report-spec =
     tie.close
-    (tie.spec
-    track-rows-requires
-    samples-left-requires
-    cast-put-head
-    cast-put-head-2
-    put-head-requires
-    put-lines-requires
-    same-length
-    same-length-2
+    (tie.spec track-rows-requires samples-left-requires cast-put-head cast-put-head-2 put-head-requires put-lines-requires same-length same-length-2
     returns)

@@ -1,4 +1,4 @@
--- `track_text::samples_left` meets its contract. Assumes nothing.
+-- `track_text::samples_left` meets its contract.
 use mathlib.Core.Path.{sym, _∙_}
 use Prim.Native.Nat.{_+_, _-_, _*_, _≤_}
 use native.Mathlib.Omega.{arith}
@@ -18,9 +18,6 @@ within c = last-frame (c .before .before .args .s) (c .before .before .pre .0) (
 returns : tie.Need-returns
 unfolding samples-left
 returns c = rw (eq-eqb (F (c .before .args .s) (c .before .args .n)) 0 (sym (c .before .pre .1) ∙ c .if1 .taken))
-
-sub-result : tie.Need-sub-result
-sub-result c = search needs
 
 hop-length-requires : tie.Need-hop-length-requires
 hop-length-requires c κs = c .before .pre .0
@@ -47,12 +44,4 @@ returns-2 c =
 pub samples-left-spec : {M : Type 1} → statement M
 samples-left-spec =
     tie.close
-    (tie.spec
-    returns
-    sub-result
-    hop-length-requires
-    mul-result
-    frame-length-requires
-    add-result
-    sub-result-2
-    returns-2)
+    (tie.spec returns (λ c. search needs) hop-length-requires mul-result frame-length-requires add-result sub-result-2 returns-2)

@@ -1,4 +1,4 @@
--- `track_text::track_rows` meets its contract. Assumes nothing.
+-- `track_text::track_rows` meets its contract.
 use mathlib.Core.Path.{ap, _∙_}
 use Rattle.pitch_track.specs.declared.Started.{Started}
 use Rattle.pitch_track.specs.Step.{outcome, deliverOf}

@@ -1,4 +1,4 @@
--- `track_text::track_text` meets its contract. Assumes nothing.
+-- `track_text::track_text` meets its contract.
 use mathlib.Core.Path.{_≡_, sym, ap, ap₂, _∙_}
 use mathlib.Core.List.{List, _++_}
 use Prim.Native.Nat.{ℕ, _-_, _/_, _≤_}
@@ -139,21 +139,6 @@ returns-2 c =
 pub track-text-spec : {M : Type 1} → statement M
 track-text-spec =
     tie.close
-    (tie.spec
-    program-no-requires
-    cast-put-refused
-    put-refused-requires
-    same-length
-    returns
-    settings-in-requires
-    sub-n
-    slice-relend-prefix-load-samples
-    slice-aggregate-load-samples
-    load-samples-requires
-    slice-reshare-prefix-put-report
-    slice-aggregate-put-report
-    put-report-requires
-    same-length-2
-    same-length-3
-    same-length-4
-    returns-2)
+    (tie.spec program-no-requires cast-put-refused put-refused-requires same-length returns settings-in-requires sub-n
+    slice-relend-prefix-load-samples slice-aggregate-load-samples load-samples-requires slice-reshare-prefix-put-report slice-aggregate-put-report
+    put-report-requires same-length-2 same-length-3 same-length-4 returns-2)

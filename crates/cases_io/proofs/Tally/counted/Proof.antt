@@ -1,4 +1,4 @@
--- `cases_io::Tally::counted` meets its contract. Assumes nothing.
+-- `cases_io::Tally::counted` meets its contract.
 use mathlib.Core.Path.{ap₂}
 use borrow.Author.Needs.{needs}
 use Rattle.cases_io.specs.Counts.{tally, tally-after}

@@ -1,4 +1,4 @@
--- `cases_track::deliveries::agrees` meets its contract: the lent part of the table comes back as long as it went. Assumes nothing.
+-- `cases_track::deliveries::agrees` meets its contract: the lent part of the table comes back as long as it went.
 use mathlib.Core.Path.{_≡_, sym, _∙_}
 use mathlib.Core.List.{_++_}
 use lib.ListN.{length, drop}
@@ -14,38 +14,11 @@ whole d =
     d .before .before .before .blank-table .ensures
     ∙ sym (length-front (d .before .before .before .blank-table .result) (d .deliver-all .last .1 .1 .1 .0) (d .before .before .before .before .before .before .least .result) (d .deliver-all .kept .1 .1 .1 .0))
 
-u32-at-requires : tie.Need-u32-at-requires
-u32-at-requires c κs = search needs
-
-least-requires : tie.Need-least-requires
-least-requires c κs = search needs
-
-lists-of-requires : tie.Need-lists-of-requires
-lists-of-requires c κs = search needs
-
-samples-of-requires : tie.Need-samples-of-requires
-samples-of-requires c κs = search needs
-
-blank-table-requires : tie.Need-blank-table-requires
-blank-table-requires c κs = search needs
-
-slice-aggregate-deliver-all : tie.Need-slice-aggregate-deliver-all
-slice-aggregate-deliver-all c = search needs
-
 array-borrow-prefix-table : tie.Need-array-borrow-prefix-table
 array-borrow-prefix-table c = search needs
 
 slice-aggregate-deliver-all-2 : tie.Need-slice-aggregate-deliver-all-2
 slice-aggregate-deliver-all-2 c = sym (length-take-le _ _ (array-borrow-prefix-table (c .before)))
-
-deliver-all-requires : tie.Need-deliver-all-requires
-deliver-all-requires c κs = search needs
-
-start-agrees-requires : tie.Need-start-agrees-requires
-start-agrees-requires c κs = search needs
-
-end-agrees-requires : tie.Need-end-agrees-requires
-end-agrees-requires c κs = search needs
 
 slice-aggregate-table-agrees : tie.Need-slice-aggregate-table-agrees
 slice-aggregate-table-agrees c = whole (c .before .before .before .before .before .before .before)
@@ -53,28 +26,12 @@ slice-aggregate-table-agrees c = whole (c .before .before .before .before .befor
 table-agrees-requires : tie.Need-table-agrees-requires
 table-agrees-requires c κs = whole (c .before .before .before .before .before .before .before)
 
-returns : tie.Need-returns
-returns c = search needs
-
 returns-2 : tie.Need-returns-2
 returns-2 c = search needs
 
 pub agrees-spec : {M : Type 1} → statement M
 agrees-spec =
     tie.close
-    (tie.spec
-    u32-at-requires
-    least-requires
-    lists-of-requires
-    samples-of-requires
-    blank-table-requires
-    slice-aggregate-deliver-all
-    array-borrow-prefix-table
-    slice-aggregate-deliver-all-2
-    deliver-all-requires
-    start-agrees-requires
-    end-agrees-requires
-    slice-aggregate-table-agrees
-    table-agrees-requires
-    returns
-    returns-2)
+    (tie.spec (λ c κs. search needs) (λ c κs. search needs) (λ c κs. search needs) (λ c κs. search needs) (λ c κs. search needs) (λ c. search needs)
+    array-borrow-prefix-table slice-aggregate-deliver-all-2 (λ c κs. search needs) (λ c κs. search needs) (λ c κs. search needs)
+    slice-aggregate-table-agrees table-agrees-requires (λ c. search needs) returns-2)

@@ -1,4 +1,4 @@
--- `cases_track::deliveries::blank_table` meets its contract. The invariant: the table keeps its length. Assumes nothing.
+-- `cases_track::deliveries::blank_table` meets its contract. The invariant: the table keeps its length.
 use Prim.Native.Nat.{_≤_, _-_}
 use lib.ListN.{length, length-set}
 use mathlib.Core.Path.{_≡_}
@@ -12,24 +12,6 @@ Inv-loop table₀ i₀ table i = (i ≤ 32800) × (32800 ≡ length table)
 abbrev μ-loop : tie.MeasureT-loop
 μ-loop table₀ i₀ table i = 32800 - i
 
-loop-holds : tie.Need-loop-holds Inv-loop μ-loop
-loop-holds c = search needs
-
-blank-requires : tie.Need-blank-requires Inv-loop μ-loop
-blank-requires c κs = search needs
-
-mul-table : tie.Need-mul-table Inv-loop μ-loop
-mul-table c = search needs
-
-array-set-from-table : tie.Need-array-set-from-table Inv-loop μ-loop
-array-set-from-table c = search needs
-
-add-i : tie.Need-add-i Inv-loop μ-loop
-add-i c = search needs
-
-loop-less : tie.Need-loop-less Inv-loop μ-loop
-loop-less c = search needs
-
 loop-again : tie.Need-loop-again Inv-loop μ-loop
 loop-again c = (search needs, simp length-set (c .before .before .loop .inv .1))
 
@@ -39,14 +21,5 @@ returns c = search needs
 pub blank-table-spec : {M : Type 1} → statement M
 blank-table-spec =
     tie.close
-    (tie.spec
-    Inv-loop
-    μ-loop
-    loop-holds
-    blank-requires
-    mul-table
-    array-set-from-table
-    add-i
-    loop-less
-    loop-again
-    returns)
+    (tie.spec Inv-loop μ-loop (λ c. search needs) (λ c κs. search needs) (λ c. search needs) (λ c. search needs) (λ c. search needs)
+    (λ c. search needs) loop-again returns)

@@ -1,4 +1,4 @@
--- `cases_track::deliveries::places_agree` meets its contract: the places that are compared are within the 640. Assumes nothing.
+-- `cases_track::deliveries::places_agree` meets its contract: the places that are compared are within the 640.
 use mathlib.Core.Path.{_≡_, sym}
 use native.Mathlib.Omega.{arith}
 use lib.ListN.{length}
@@ -10,20 +10,11 @@ use Rattle.cases_track.proofs.deliveries.places_agree.Tie as tie
 full : (c : tie.After-held) → length (c .before .before .args .t .held) ≡ 640
 full c = search needs
 
-u32-at-requires : tie.Need-u32-at-requires
-u32-at-requires c κs = search needs
-
-least-requires : tie.Need-least-requires
-least-requires c κs = search needs
-
 array-share-prefix-held : tie.Need-array-share-prefix-held
 array-share-prefix-held c = omega (arith, full (c .before .before))
 
 slice-aggregate-same-i16s : tie.Need-slice-aggregate-same-i16s
 slice-aggregate-same-i16s c = sym (length-take-le _ _ (omega (arith, full (c .before .before .before))))
-
-same-i16s-requires : tie.Need-same-i16s-requires
-same-i16s-requires c κs = search needs
 
 returns : tie.Need-returns
 returns c = search needs
@@ -31,10 +22,4 @@ returns c = search needs
 pub places-agree-spec : {M : Type 1} → statement M
 places-agree-spec =
     tie.close
-    (tie.spec
-    u32-at-requires
-    least-requires
-    array-share-prefix-held
-    slice-aggregate-same-i16s
-    same-i16s-requires
-    returns)
+    (tie.spec (λ c κs. search needs) (λ c κs. search needs) array-share-prefix-held slice-aggregate-same-i16s (λ c κs. search needs) returns)

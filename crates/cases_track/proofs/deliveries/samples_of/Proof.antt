@@ -1,27 +1,15 @@
--- `cases_track::deliveries::samples_of` meets its contract: the samples that are listed are within the room, and the part that was lent comes back as long as it went. Assumes nothing.
+-- `cases_track::deliveries::samples_of` meets its contract: the samples that are listed are within the room, and the part that was lent comes back as long as it went.
 use mathlib.Core.Path.{sym, _∙_}
 use lib.Seq.{length-take-le, length-front}
 use borrow.Author.Needs.{needs}
 use Rattle.cases_track.proofs.deliveries.samples_of.Statement.{statement}
 use Rattle.cases_track.proofs.deliveries.samples_of.Tie as tie
 
-sample-room-requires : tie.Need-sample-room-requires
-sample-room-requires c κs = search needs
-
-u32-at-requires : tie.Need-u32-at-requires
-u32-at-requires c κs = search needs
-
-least-requires : tie.Need-least-requires
-least-requires c κs = search needs
-
 array-borrow-prefix-samples : tie.Need-array-borrow-prefix-samples
 array-borrow-prefix-samples c = search needs
 
 slice-aggregate-load-i16s : tie.Need-slice-aggregate-load-i16s
 slice-aggregate-load-i16s c = sym (length-take-le _ _ (array-borrow-prefix-samples (c .before)))
-
-load-i16s-requires : tie.Need-load-i16s-requires
-load-i16s-requires c κs = search needs
 
 returns : tie.Need-returns
 returns c =
@@ -32,11 +20,5 @@ returns c =
 pub samples-of-spec : {M : Type 1} → statement M
 samples-of-spec =
     tie.close
-    (tie.spec
-    sample-room-requires
-    u32-at-requires
-    least-requires
-    array-borrow-prefix-samples
-    slice-aggregate-load-i16s
-    load-i16s-requires
-    returns)
+    (tie.spec (λ c κs. search needs) (λ c κs. search needs) (λ c κs. search needs) array-borrow-prefix-samples slice-aggregate-load-i16s
+    (λ c κs. search needs) returns)

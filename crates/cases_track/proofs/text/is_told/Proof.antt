@@ -1,4 +1,4 @@
--- `cases_track::text::is_told` meets its contract: what `track_text` wrote first is the input's text. Assumes nothing.
+-- `cases_track::text::is_told` meets its contract: what `track_text` wrote first is the input's text.
 use mathlib.Core.Path.{sym, _∙_}
 use lib.Seq.{length-take-le}
 use borrow.Author.Needs.{needs}
@@ -6,35 +6,11 @@ use Rattle.cases_track.specs.TextLaws.{text-of}
 use Rattle.cases_track.proofs.text.is_told.Statement.{statement}
 use Rattle.cases_track.proofs.text.is_told.Tie as tie
 
-sample-room-requires : tie.Need-sample-room-requires
-sample-room-requires c κs = search needs
-
-table-room-requires : tie.Need-table-room-requires
-table-room-requires c κs = search needs
-
-text-room-requires : tie.Need-text-room-requires
-text-room-requires c κs = search needs
-
-slice-aggregate-track-text : tie.Need-slice-aggregate-track-text
-slice-aggregate-track-text c = search needs
-
-slice-aggregate-track-text-2 : tie.Need-slice-aggregate-track-text-2
-slice-aggregate-track-text-2 c = search needs
-
-slice-aggregate-track-text-3 : tie.Need-slice-aggregate-track-text-3
-slice-aggregate-track-text-3 c = search needs
-
-track-text-requires : tie.Need-track-text-requires
-track-text-requires c κs = search needs
-
 array-share-prefix-out : tie.Need-array-share-prefix-out
 array-share-prefix-out c = search needs
 
 slice-aggregate-same : tie.Need-slice-aggregate-same
 slice-aggregate-same c = sym (length-take-le _ _ (array-share-prefix-out (c .before)))
-
-same-requires : tie.Need-same-requires
-same-requires c κs = search needs
 
 returns : tie.Need-returns
 returns c = λ rest e.
@@ -44,15 +20,5 @@ returns c = λ rest e.
 pub is-told-spec : {M : Type 1} → statement M
 is-told-spec =
     tie.close
-    (tie.spec
-    sample-room-requires
-    table-room-requires
-    text-room-requires
-    slice-aggregate-track-text
-    slice-aggregate-track-text-2
-    slice-aggregate-track-text-3
-    track-text-requires
-    array-share-prefix-out
-    slice-aggregate-same
-    same-requires
-    returns)
+    (tie.spec (λ c κs. search needs) (λ c κs. search needs) (λ c κs. search needs) (λ c. search needs) (λ c. search needs) (λ c. search needs)
+    (λ c κs. search needs) array-share-prefix-out slice-aggregate-same (λ c κs. search needs) returns)

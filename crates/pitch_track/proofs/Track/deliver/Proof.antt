@@ -1,5 +1,5 @@
 -- `pitch_track::Track::deliver` meets its contract: a refusal is the first case of `deliverOf`, and any other delivery the second.
--- Assumes nothing.
+--
 use mir.Syntax.{w32}
 use mir.Val.{toZ, ofZ}
 use mathlib.Core.Path.{_≡_, refl, sym, ap, _∙_}
@@ -51,9 +51,6 @@ held-fits c =
     let z = accepted _ (pass (c .before .before .before .before .before .before) .ok) in
     omega (arith, full c, pass (c .before .before .before .before .before .before) .few)
 
-refusal-requires : tie.Need-refusal-requires
-refusal-requires c κs = search needs
-
 returns : tie.Need-returns
 returns c = let a = c .before .before .before .args in delivers (a .self) (a .table .now) (a .samples .now) _ _ (sym (refuses (a .self) (a .table .now) (a .samples .now) (λ e. c .if1 .taken (c .before .refusal .ensures ∙ e)) ∙ ap (λ (n : ℕ). outcome (record { answer = Refused n; track = a .self }) (a .table .now)) (sym (c .before .refusal .ensures))))
 
@@ -69,9 +66,6 @@ add-n c = let z = accepted _ (pass (c .before .before) .ok) in omega (arith, pas
 frames-in-requires : tie.Need-frames-in-requires
 frames-in-requires c κs = let z = accepted _ (pass (c .before .before) .ok) in omega arith
 
-slice-aggregate-put-rows : tie.Need-slice-aggregate-put-rows
-slice-aggregate-put-rows c = search needs
-
 put-rows-requires : tie.Need-put-rows-requires
 put-rows-requires c κs = (
   pass (c .before .before .before .before .before .before .before) .ok,
@@ -86,17 +80,11 @@ mul-from c = let z = accepted _ (pass (c .before .before .before .before .before
 sub-left : tie.Need-sub-left
 sub-left c = from-fits (c .before .before .before .before .before .before)
 
-slice-aggregate-gather : tie.Need-slice-aggregate-gather
-slice-aggregate-gather c = search needs
-
 gather-requires : tie.Need-gather-requires
 gather-requires c κs = (held-fits (c .before .before .before .before), omega (arith, from-fits (c .before .before .before .before .before .before .before)), left-fits (c .before .before .before .before .before .before .before))
 
 add-done : tie.Need-add-done
 add-done c = omega (arith, new (c .before .before .before .before .before .before .before .before), pass (c .before .before .before .before .before .before .before .before .before .before .before) .fits)
-
-same-length : tie.Need-same-length
-same-length c = search needs
 
 returns-2 : tie.Need-returns-2
 unfolding pendingOf
@@ -131,19 +119,5 @@ returns-2 c =
 pub deliver-spec : {M : Type 1} → statement M
 deliver-spec =
     tie.close
-    (tie.spec
-    refusal-requires
-    returns
-    frame-length-requires
-    hop-length-requires
-    add-n
-    frames-in-requires
-    slice-aggregate-put-rows
-    put-rows-requires
-    mul-from
-    sub-left
-    slice-aggregate-gather
-    gather-requires
-    add-done
-    same-length
-    returns-2)
+    (tie.spec (λ c κs. search needs) returns frame-length-requires hop-length-requires add-n frames-in-requires (λ c. search needs) put-rows-requires
+    mul-from sub-left (λ c. search needs) gather-requires add-done (λ c. search needs) returns-2)

@@ -1,5 +1,5 @@
 -- `pitch_track::Track::start` meets its contract.
--- Assumes nothing.
+--
 use mathlib.Core.Path.{sym, _∙_}
 use borrow.Author.Tests.{eq-eqb, ne-eqb}
 use Rattle.pitch_settings.specs.Settings.{settings-no}

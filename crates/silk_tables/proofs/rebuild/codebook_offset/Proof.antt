@@ -1,4 +1,4 @@
--- `silk_tables::rebuild::codebook_offset` meets its contract: a lookup in the book that the rate chooses. Assumes nothing.
+-- `silk_tables::rebuild::codebook_offset` meets its contract: a lookup in the book that the rate chooses.
 use mathlib.Core.Path.{sym, _∙_}
 use native.Mathlib.Omega.{arith}
 use lib.Dec.{lit≤}

@@ -1,4 +1,4 @@
--- `silk_tables::rebuild::lag_of` meets its contract: the sum is read step by step, and the two tests are those of the hold. Assumes nothing.
+-- `silk_tables::rebuild::lag_of` meets its contract: the sum is read step by step, and the two tests are those of the hold.
 use mathlib.Core.Path.{ap}
 use native.Mathlib.Omega.{arith}
 use lib.IntN.{pos}
@@ -11,26 +11,11 @@ use borrow.Author.Needs.{needs}
 use Rattle.silk_tables.proofs.rebuild.lag_of.Statement.{statement}
 use Rattle.silk_tables.proofs.rebuild.lag_of.Tie as tie
 
-lag-min-requires : tie.Need-lag-min-requires
-lag-min-requires c κs = search needs
-
-cast-least : tie.Need-cast-least
-cast-least c = search needs
-
-lag-max-requires : tie.Need-lag-max-requires
-lag-max-requires c κs = search needs
-
-cast-greatest : tie.Need-cast-greatest
-cast-greatest c = search needs
-
 add-primary : tie.Need-add-primary
 add-primary c =
     let s = c .before .before in
     let l = r-as (r-nat w32 (c .before .lag-min .result) (omega arith)) (ap pos (c .before .lag-min .ensures)) in
     f-add l (r-var (s .fits .lag-index)) (primary-fits (s .pre))
-
-codebook-offset-requires : tie.Need-codebook-offset-requires
-codebook-offset-requires c κs = search needs
 
 add-lag : tie.Need-add-lag
 add-lag c =
@@ -79,14 +64,5 @@ returns-3 c =
 pub lag-of-spec : {M : Type 1} → statement M
 lag-of-spec =
     tie.close
-    (tie.spec
-    lag-min-requires
-    cast-least
-    lag-max-requires
-    cast-greatest
-    add-primary
-    codebook-offset-requires
-    add-lag
-    returns
-    returns-2
-    returns-3)
+    (tie.spec (λ c κs. search needs) (λ c. search needs) (λ c κs. search needs) (λ c. search needs) add-primary (λ c κs. search needs) add-lag returns
+    returns-2 returns-3)

@@ -1,4 +1,4 @@
--- `silk_tables::rebuild::pair_carried` meets its contract: each `&&` of the code is one of the definition. Assumes nothing.
+-- `silk_tables::rebuild::pair_carried` meets its contract: each `&&` of the code is one of the definition.
 use mathlib.Core.Path.{_≡_, sym, ap, ap₂, _∙_}
 use mathlib.Core.Bool.{Bool, _&&_}
 use mathlib.Core.Logic.{⊎-elim}
@@ -15,14 +15,8 @@ use borrow.Author.Needs.{needs}
 use Rattle.silk_tables.proofs.rebuild.pair_carried.Statement.{statement}
 use Rattle.silk_tables.proofs.rebuild.pair_carried.Tie as tie
 
-greatest-index-requires : tie.Need-greatest-index-requires
-greatest-index-requires c κs = search needs
-
 cast-greatest : tie.Need-cast-greatest
 cast-greatest c = record { sfits = omega (arith, c .greatest-index .ensures, greatest-le (c .before .args .fs-khz)) }
-
-contours-in-use-requires : tie.Need-contours-in-use-requires
-contours-in-use-requires c κs = search needs
 
 cast-contours : tie.Need-cast-contours
 cast-contours c =
@@ -72,10 +66,4 @@ returns-2 c =
 pub pair-carried-spec : {M : Type 1} → statement M
 pair-carried-spec =
     tie.close
-    (tie.spec
-    greatest-index-requires
-    cast-greatest
-    contours-in-use-requires
-    cast-contours
-    returns
-    returns-2)
+    (tie.spec (λ c κs. search needs) cast-greatest (λ c κs. search needs) cast-contours returns returns-2)

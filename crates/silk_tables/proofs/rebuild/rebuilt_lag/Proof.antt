@@ -1,4 +1,4 @@
--- `silk_tables::rebuild::rebuilt_lag` meets its contract: each refusal is one test of the definition, and past them the pair has an entry in a book. Assumes nothing.
+-- `silk_tables::rebuild::rebuilt_lag` meets its contract: each refusal is one test of the definition, and past them the pair has an entry in a book.
 use mathlib.Core.Path.{_≡_, refl, sym, ap, ap₂, _∙_, subst}
 use mathlib.Core.Bool.{true}
 use mathlib.Core.List.{[], _∷_}
@@ -23,9 +23,6 @@ use Rattle.silk_tables.proofs.rebuild.rebuilt_lag.Tie as tie
 in-both : {x : Rebuilt} (fs nb cx : ℕ) (index contour : ℤ) (k : ℕ) → x ≡ rebuiltOf fs nb cx index contour k
     → (x ≡ rebuiltOf fs nb cx index contour k) × (rebuilt-numbers x ≡ answer-numbers (rebuilt-number fs nb cx index contour k) (rebuilt fs nb index (natAbs contour) k ∷ []))
 in-both fs nb cx index contour k e = (e, ap rebuilt-numbers e ∙ rebuilt-in-numbers fs nb cx index contour k)
-
-settings-accepted-requires : tie.Need-settings-accepted-requires
-settings-accepted-requires c κs = search needs
 
 -- what the first test and the last say, at the numbers handed in
 settled : (c : tie.Else1) → accepted (c .before .before .args .fs-khz) (c .before .before .args .nb-subfr) (c .before .before .args .complexity) ≡ true
@@ -89,12 +86,4 @@ returns-4 c =
 pub rebuilt-lag-spec : {M : Type 1} → statement M
 rebuilt-lag-spec =
     tie.close
-    (tie.spec
-    settings-accepted-requires
-    returns
-    returns-2
-    pair-carried-requires
-    returns-3
-    cast-lag-of
-    lag-of-requires
-    returns-4)
+    (tie.spec (λ c κs. search needs) returns returns-2 pair-carried-requires returns-3 cast-lag-of lag-of-requires returns-4)

@@ -1,4 +1,4 @@
--- `silk_tables::rebuild::settings_accepted` meets its contract: each `||` and `&&` of the code is one of the definition. Assumes nothing.
+-- `silk_tables::rebuild::settings_accepted` meets its contract: each `||` and `&&` of the code is one of the definition.
 use mathlib.Core.Path.{_≡_, refl, sym, _∙_}
 use mathlib.Core.Bool.{Bool, _&&_, _||_}
 use mathlib.Core.Logic.{⊎-elim}
