@@ -14,7 +14,7 @@ use mir.Val.{SFits, toZ, ofZ}
 use Rattle.zint.specs.BoolLaws.{and-left, and-right}
 use Rattle.zint.specs.Equal.{eqZ}
 use Rattle.zint.specs.EqualLaws.{eqZ-yes, eqZ-no, eqZ-true}
-use Rattle.zint.specs.Read.{r-var}
+use Rattle.zint.specs.ReadLaws.{r-var}
 use Rattle.pitch_settings.specs.declared.Settings.{Settings}
 use Rattle.cases_io.specs.Counts.{same-settings, sum}
 

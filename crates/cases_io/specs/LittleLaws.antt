@@ -1,5 +1,4 @@
 -- Laws of little-endian numbers: past the end they are 0, so that a place may be held to the end; and one element more of a comparison.
---
 use mathlib.Core.Bool.{Bool, true, false, _&&_, and-false}
 use mathlib.Core.List.{List, [], _∷_}
 use mathlib.Core.Path.{_≡_, refl, sym, ap, ap₂, _∙_, subst}

@@ -22,6 +22,7 @@ use pitch_sheet::Got;
 use pitch_sheet::Wrote;
 use pitch_sheet::read_sheet;
 use pitch_sheet::write_sheet;
+use pitch_table::ROW_SIZE;
 
 struct Case {
     // 0 write, 1 read
@@ -157,7 +158,7 @@ fn read_agrees(body: &[u8], c: Case, page: &[u8], table: &mut [i32]) -> bool
     }
     mark_table(table);
     let answer = read_sheet(page, table);
-    got_agrees(c, answer) && table_agrees(body, c.numbers, 8 * c.frames, table)
+    got_agrees(c, answer) && table_agrees(body, c.numbers, ROW_SIZE * c.frames, table)
 }
 
 // A write with a table and a page of the lengths that it asks for. One that asks for too much does not agree.

@@ -6,16 +6,17 @@ use Prim.Native.Nat.{ℕ, _+_, _-_, _≤_, min}
 use native.Mathlib.Omega.{arith}
 use lib.IntN.{ℤ}
 use lib.ListN.{length, take, drop, replicate, length-replicate}
-use Rattle.lists.specs.Push.{headed, take-headed}
+use Rattle.lists.specs.Fill.{overwritten}
+use Rattle.lists.specs.PushLaws.{take-overwritten}
 use Rattle.cases_io.specs.Little.{u32-at}
-use Rattle.track_text.specs.Program.{track-text, Printed, printed, answered, printedOf}
+use Rattle.track_text.specs.Program.{track-text, TrackPrinted, track-printed, answered, track-text-call}
 use Rattle.cases_track.specs.Text.{Tells, from, whole, held, TextAgrees}
 
-pub text-of : (b out : List ℕ) (x t : List ℤ) (r : ℕ) (after : List ℕ) (y u : List ℤ) → printed r after y u ≡ printedOf b out x t → take r after ≡ track-text b
-unfolding printedOf answered
+pub text-of : (b out : List ℕ) (x t : List ℤ) (r : ℕ) (after : List ℕ) (y u : List ℤ) → track-printed r after y u ≡ track-text-call b out x t → take r after ≡ track-text b
+unfolding track-text-call answered
 text-of b out x t r after y u e =
-    let n : length (track-text b) ≡ r = sym (ap (λ (p : Printed). p .len) e) in
-    ap (take r) (ap (λ (p : Printed). p .out) e) ∙ take-headed (track-text b) out r n
+    let n : length (track-text b) ≡ r = sym (ap (λ (p : TrackPrinted). p .len) e) in
+    ap (take r) (ap (λ (p : TrackPrinted). p .out) e) ∙ take-overwritten (track-text b) out r n
 
 -- what is false tells a fact that does not hold
 pub tells-not : {fact : Type 0} → (fact → ⊥) → Tells false fact

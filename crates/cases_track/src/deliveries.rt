@@ -18,6 +18,7 @@ use cases_io::skip;
 use cases_io::u32_at;
 use cases_io::usize_at;
 use pitch_settings::Settings;
+use pitch_table::ROW_SIZE;
 use pitch_track::Answer;
 use pitch_track::Track;
 use recording_io::sample_room;
@@ -180,8 +181,8 @@ fn number_told(body: &[u8], rows: usize, first: usize, end: usize, i: usize) -> 
 fn table_agrees(body: &[u8], rows: usize, table: &[i32]) -> bool
     requires { ⌜ 32800 ≡ length (now table) ⌝ }
 {
-    let first = 8 * least(usize_at(body, 34), 4096);
-    let end = first + 8 * u32_at(body, 74);
+    let first = ROW_SIZE * least(usize_at(body, 34), 4096);
+    let end = first + ROW_SIZE * u32_at(body, 74);
     for i in 0..table.len() {
         if table[i] != number_told(body, rows, first, end, i) {
             return false;

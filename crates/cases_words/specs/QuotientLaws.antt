@@ -1,5 +1,4 @@
 -- Which quotients of two numbers of 32 bits fit 32 bits: all but that of the least number by -1.
---
 use mathlib.Core.Path.{_≡_, refl, ap}
 use Prim.Native.Nat.{ℕ, zero, suc, _+_, _*_, _/_, _^_, _≤_, _<_}
 use native.Mathlib.Nat.{div-le-self, div-lt-iff-lt-mul}

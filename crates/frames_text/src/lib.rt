@@ -3,7 +3,7 @@ ghost use mathlib.Core.Path.{_≡_};
 ghost use Prim.Native.Nat.{_≤_};
 ghost use lib.ListN.{length};
 ghost use Rattle.pitch_settings.specs.Settings.{settings-no};
-ghost use Rattle.frames_text.specs.Frames.{record-size, record-length, record-no, printed, printedOf};
+ghost use Rattle.frames_text.specs.Frames.{record-size, record-length, record-no, frame-printed, frame-text-call};
 use pitch_input::load_samples;
 use pitch_input::settings_in;
 use pitch_settings::Settings;
@@ -68,7 +68,7 @@ fn record_no(bytes: &[u8]) -> usize
 // The record's line or its refusal, in the first bytes of `out`. The record's samples are left in the first places of `samples`, by a refusal nothing; all else stays.
 pub fn frame_text(bytes: &[u8], samples: &mut [i16], out: &mut [u8]) -> Line
     requires { ⌜ (640 ≤ length (now samples)) × (86 ≤ length (now out)) ⌝ }
-    ensures { λ r. ⌜ printed r (now (out .exit)) (now (samples .exit)) ≡ printedOf (now (bytes .entry)) (now (out .entry)) (now (samples .entry)) ⌝ }
+    ensures { λ r. ⌜ frame-printed r (now (out .exit)) (now (samples .exit)) ≡ frame-text-call (now (bytes .entry)) (now (out .entry)) (now (samples .entry)) ⌝ }
     ensures { λ r. ⌜ r .len ≤ 86 ⌝ }
 {
     let number = record_no(bytes);

@@ -5,7 +5,7 @@ use lib.IntN.{ℤ}
 use Rattle.pitch_settings.specs.declared.Settings.{Settings}
 use Rattle.silk_pitch_analysis.specs.declared.Answer.{Answer}
 use Rattle.silk_pitch_analysis.specs.declared.Answer.the-variants.{Analysed, Refused}
-use Rattle.silk_pitch_analysis.specs.Frame.{Outcome, frameOf, verdict-numbers}
+use Rattle.silk_pitch_analysis.specs.Frame.{FrameOutcome, frame-call, verdict-numbers}
 
 abbrev pub settings : ℕ → ℕ → ℕ → ℤ → ℤ → Settings
 settings rate nb complexity thres1 thres2 = record { rate = rate; nb = nb; complexity = complexity; thres1 = thres1; thres2 = thres2 }
@@ -28,5 +28,5 @@ abbrev pub answered : Answer → List ℤ → List ℤ → Exported
 answered (Analysed v) l old = exported 0 l (verdict-numbers v)
 answered (Refused k) l old = exported k l old
 
-unfoldable pub exportOf : Settings → List ℤ → List ℤ → ℤ → ℤ → List ℤ → Exported
-exportOf s x l prev corr old = answered (frameOf s x l prev corr .answer) (frameOf s x l prev corr .lags) old
+unfoldable pub export-call : Settings → List ℤ → List ℤ → ℤ → ℤ → List ℤ → Exported
+export-call s x l prev corr old = answered (frame-call s x l prev corr .answer) (frame-call s x l prev corr .lags) old

@@ -1,5 +1,4 @@
 -- Laws of the exported frame call: it follows from the frame call's outcome, and its number is the refusal's.
---
 use mathlib.Core.Path.{_≡_, refl, sym, ap}
 use mathlib.Core.Bool.{Bool, true, false, cond}
 use mathlib.Core.List.{List}
@@ -13,20 +12,20 @@ use Rattle.pitch_settings.specs.Settings.{frame-length}
 use Rattle.silk_pitch_analysis.specs.declared.Verdict.{Verdict}
 use Rattle.silk_pitch_analysis.specs.declared.Answer.{Answer}
 use Rattle.silk_pitch_analysis.specs.declared.Answer.the-variants.{Refused}
-use Rattle.silk_pitch_analysis.specs.Frame.{Outcome, outcome, analysed, verdict-of, frame-no, frameOf}
-use Rattle.pitch_export.specs.Export.{Exported, answered, exportOf}
+use Rattle.silk_pitch_analysis.specs.Frame.{FrameOutcome, frame-outcome, analysed, verdict-of, frame-no, frame-call}
+use Rattle.pitch_export.specs.Export.{Exported, answered, export-call}
 
-pub export-is : (s : Settings) (x l : List ℤ) (prev corr : ℤ) (old : List ℤ) (a : Answer) (m : List ℤ) → outcome a m ≡ frameOf s x l prev corr → answered a m old ≡ exportOf s x l prev corr old
-unfolding exportOf
-export-is s x l prev corr old a m e = ap (λ (o : Outcome). answered (o .answer) (o .lags) old) e
+pub export-is : (s : Settings) (x l : List ℤ) (prev corr : ℤ) (old : List ℤ) (a : Answer) (m : List ℤ) → frame-outcome a m ≡ frame-call s x l prev corr → answered a m old ≡ export-call s x l prev corr old
+unfolding export-call
+export-is s x l prev corr old a m e = ap (λ (o : FrameOutcome). answered (o .answer) (o .lags) old) e
 
 number-by : (s : Settings) (v : Verdict) (l : List ℤ) (old : List ℤ) (k : ℕ) (b : Bool) → eqb k 0 ≡ b
-    → answered (cond b (analysed s v l) (outcome (Refused k) l) .answer) (cond b (analysed s v l) (outcome (Refused k) l) .lags) old .number ≡ k
+    → answered (cond b (analysed s v l) (frame-outcome (Refused k) l) .answer) (cond b (analysed s v l) (frame-outcome (Refused k) l) .lags) old .number ≡ k
 unfolding analysed
 number-by s v l old k true e = sym (eqb-true k 0 e)
 number-by s v l old k false e = refl
 
 -- the number is the refusal's, and 0 where there is none
-pub export-number : (s : Settings) (x l : List ℤ) (prev corr : ℤ) (old : List ℤ) → exportOf s x l prev corr old .number ≡ frame-no s (length x) (length l)
-unfolding exportOf frameOf
+pub export-number : (s : Settings) (x l : List ℤ) (prev corr : ℤ) (old : List ℤ) → export-call s x l prev corr old .number ≡ frame-no s (length x) (length l)
+unfolding export-call frame-call
 export-number s x l prev corr old = number-by s (verdict-of s (take (frame-length s) x) prev corr) l old (frame-no s (length x) (length l)) (eqb (frame-no s (length x) (length l)) 0) refl

@@ -1,7 +1,7 @@
 // The frame call for programs in C and Rust, on numbers and slices.
 ghost use mathlib.Core.Path.{_≡_};
 ghost use Rattle.silk_pitch_analysis.specs.Frame.{verdict-numbers};
-ghost use Rattle.pitch_export.specs.Export.{settings, numbers, exported, exportOf};
+ghost use Rattle.pitch_export.specs.Export.{settings, numbers, exported, export-call};
 use pitch_settings::Settings;
 use silk_pitch_analysis::Answer;
 use silk_pitch_analysis::Verdict;
@@ -57,7 +57,7 @@ pub extern "C" fn pitch_frame(
     contour: &mut i32,
     correlation: &mut i32,
 ) -> usize
-    ensures { λ r. ⌜ exported r (now («pitch_out» .exit)) (numbers (now (verdict .exit)) (now (index .exit)) (now (contour .exit)) (now (correlation .exit))) ≡ exportOf (settings rate nb complexity thres1 thres2) (now (frame .entry)) (now («pitch_out» .entry)) «prev_lag» «prev_corr» (numbers (now (verdict .entry)) (now (index .entry)) (now (contour .entry)) (now (correlation .entry))) ⌝ }
+    ensures { λ r. ⌜ exported r (now («pitch_out» .exit)) (numbers (now (verdict .exit)) (now (index .exit)) (now (contour .exit)) (now (correlation .exit))) ≡ export-call (settings rate nb complexity thres1 thres2) (now (frame .entry)) (now («pitch_out» .entry)) «prev_lag» «prev_corr» (numbers (now (verdict .entry)) (now (index .entry)) (now (contour .entry)) (now (correlation .entry))) ⌝ }
 {
     let s = Settings {
         rate,

@@ -2,7 +2,7 @@
 ghost use mathlib.Core.Path.{_≡_};
 ghost use Prim.Native.Nat.{_+_, _*_, _≤_};
 ghost use lib.ListN.{length};
-ghost use Rattle.pitch_input.specs.Input.{settings-in, sample-at, samples-from};
+ghost use Rattle.pitch_input.specs.Input.{input-settings, sample-at, samples-from};
 use pitch_settings::Settings;
 use sheet_bytes::i32_at;
 use sheet_bytes::u16_at;
@@ -11,7 +11,7 @@ use zint::as_i16;
 // The settings in the first eleven bytes.
 pub fn settings_in(bytes: &[u8]) -> Settings
     requires { ⌜ 11 ≤ length (now bytes) ⌝ }
-    ensures { λ r. ⌜ r ≡ settings-in (now (bytes .entry)) ⌝ }
+    ensures { λ r. ⌜ r ≡ input-settings (now (bytes .entry)) ⌝ }
 {
     Settings {
         rate: bytes[0] as usize,

@@ -1,5 +1,4 @@
 -- What accepted settings say: the rate, the subframe count, the complexity, and bounds on the sizes.
---
 use mathlib.Core.Path.{_≡_, refl, sym, ap, _∙_}
 use mathlib.Core.Bool.{Bool, true, false, _||_, cond}
 use mathlib.Core.Logic.{_⊎_, inl, inr, ⊎-elim}
@@ -43,9 +42,9 @@ by-nb s r c l h (inl e) = record { rate = r; subframes = inl e; complexity = c; 
 by-nb s r c l h (inr e) = record { rate = r; subframes = inr e; complexity = c; rate-low = l; rate-high = h; nb-low = omega arith; nb-high = omega arith; some = rw e (omega arith); within = rw e (omega arith); small = rw e (omega arith) }
 
 -- settings that are not refused
-pub accepted : (s : Settings) → settings-no s ≡ 0 → Accepted s
+pub accepted-settings : (s : Settings) → settings-no s ≡ 0 → Accepted s
 unfolding settings-no
-accepted s h = by (rate-known (s .rate)) (subframes-known (s .nb)) (leb (s .complexity) 2) refl refl refl h
+accepted-settings s h = by (rate-known (s .rate)) (subframes-known (s .nb)) (leb (s .complexity) 2) refl refl refl h
   where
     by : (a b c : Bool) → rate-known (s .rate) ≡ a → subframes-known (s .nb) ≡ b → leb (s .complexity) 2 ≡ c → _≡_ {A = ℕ} (cond a (cond b (cond c 0 3) 2) 1) 0 → Accepted s
     by true true true p q r e =

@@ -9,10 +9,10 @@ use lib.ListN.{length, drop}
 use Rattle.best.specs.Best.{every}
 use Rattle.pitch_settings.specs.declared.Settings.{Settings}
 use Rattle.pitch_settings.specs.Settings.{settings-no}
-use Rattle.pitch_table.specs.Row.{row-at}
+use Rattle.pitch_table.specs.Row.{row-size, row-at}
 use Rattle.sheet_rows.specs.Rows.{row-holds}
 use Rattle.sheet_sections.specs.Sheet.{sheet, rows-of}
-use Rattle.sheet_page.specs.Page.{settings-in, frames-in, page-no, rows-in, numbers-of}
+use Rattle.sheet_page.specs.Page.{sheet-settings, frames-in, page-no, rows-in, numbers-of}
 use Rattle.pitch_sheet.specs.declared.Wrote.{Wrote}
 use Rattle.pitch_sheet.specs.declared.Wrote.the-variants.{Written, Refused as NotWritten}
 use Rattle.pitch_sheet.specs.declared.Got.{Got}
@@ -20,7 +20,7 @@ use Rattle.pitch_sheet.specs.declared.Got.the-variants.{Read, Refused as
 
 -- a table's whole rows
 abbrev pub whole-rows : List ℤ → ℕ
-whole-rows t = length t / 8
+whole-rows t = length t / row-size
 
 -- a sheet can hold each of the first n rows
 unfoldable pub rows-hold : Settings → List ℤ → ℕ → Bool
@@ -50,8 +50,8 @@ abbrev pub wrote : Wrote → List ℕ → WriteOutcome
 wrote r page = record { answer = r; page = page }
 
 -- the sheet at the front of the page, the rest kept; a refusal leaves the page
-unfoldable pub writeOf : Settings → ℕ → List ℤ → List ℕ → WriteOutcome
-writeOf s n t page =
+unfoldable pub write-call : Settings → ℕ → List ℤ → List ℕ → WriteOutcome
+write-call s n t page =
     cond (eqb (write-no s n t (length page)) 0)
     (wrote (Written (length (sheet s (rows-of t n)))) (sheet s (rows-of t n) ++ drop (length (sheet s (rows-of t n))) page))
     (wrote (NotWritten (write-no s n t (length page))) page)
@@ -75,10 +75,10 @@ abbrev pub got : Got → List ℤ → ReadOutcome
 got r t = record { answer = r; table = t }
 
 -- the settings and the frame count, and the rows written whole at the front of the table, the rest kept; a refusal leaves the table
-unfoldable pub readOf : List ℕ → List ℤ → ReadOutcome
-readOf page t =
+unfoldable pub read-call : List ℕ → List ℤ → ReadOutcome
+read-call page t =
     cond (eqb (read-no page t) 0)
-    (got (Read (settings-in page) (frames-in page)) (numbers-of (rows-in page) ++ drop (frames-in page * 8) t))
+    (got (Read (sheet-settings page) (frames-in page)) (numbers-of (rows-in page) ++ drop (frames-in page * row-size) t))
     (got (NotRead (read-no page t)) t)
 
 -- the answer in document 01's numbers: 0, the five settings and the frame count, or the number of the refusal

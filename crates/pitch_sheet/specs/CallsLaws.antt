@@ -1,5 +1,4 @@
 -- What each call says, by its tests, and what is known where it does not refuse.
---
 use mathlib.Core.Path.{_≡_, refl, sym, ap, _∙_}
 use mathlib.Core.Bool.{Bool, true, false, cond, false≢true}
 use mathlib.Core.List.{List, [], _∷_, _++_}
@@ -12,19 +11,19 @@ use lib.ListN.{length, drop}
 use lib.Seq.{sets, sets-eq}
 use Rattle.answers.specs.Answer.{answer-numbers}
 use Rattle.best.specs.BestLaws.{every-true, every-false}
-use Rattle.lists.specs.Fill.{length-table}
+use Rattle.lists.specs.FillLaws.{length-tabulate}
 use Rattle.pitch_settings.specs.declared.Settings.{Settings}
 use Rattle.pitch_settings.specs.Settings.{settings-no}
-use Rattle.pitch_table.specs.Row.{row-at}
+use Rattle.pitch_table.specs.Row.{row-size, row-at}
 use Rattle.sheet_rows.specs.Rows.{row-holds}
 use Rattle.sheet_sections.specs.Sheet.{sheet, rows-of}
-use Rattle.sheet_page.specs.Page.{settings-in, frames-in, well-formed, page-no, row-in, held, rows-in, numbers-of}
+use Rattle.sheet_page.specs.Page.{sheet-settings, frames-in, well-formed, page-no, row-in, held, rows-in, numbers-of}
 use Rattle.sheet_page.specs.PageLaws.{numbers-length}
 use Rattle.pitch_sheet.specs.declared.Wrote.{Wrote}
 use Rattle.pitch_sheet.specs.declared.Wrote.the-variants.{Written, Refused as NotWritten}
 use Rattle.pitch_sheet.specs.declared.Got.{Got}
 use Rattle.pitch_sheet.specs.declared.Got.the-variants.{Read, Refused as NotRead}
-use Rattle.pitch_sheet.specs.Calls.{whole-rows, rows-hold, write-no, WriteOutcome, wrote, writeOf, write-numbers, read-no, ReadOutcome, got, readOf, settings-numbers, read-numbers}
+use Rattle.pitch_sheet.specs.Calls.{whole-rows, rows-hold, write-no, WriteOutcome, wrote, write-call, write-numbers, read-no, ReadOutcome, got, read-call, settings-numbers, read-numbers}
 
 -- ---- rows
 
@@ -80,7 +79,7 @@ module _ (s : Settings) (n : ℕ) (t : List ℤ) (room : ℕ) where
   pub record Accepted : Type 0 where
     pub settings : settings-no s ≡ 0
     pub few : n ≤ 4096
-    pub whole : n * 8 ≤ length t
+    pub whole : n * row-size ≤ length t
     pub rows : (i : ℕ) → i < n → row-holds s (row-at t i) ≡ true
     pub fits : length (sheet s (rows-of t n)) ≤ room
 
@@ -107,18 +106,18 @@ module _ (s : Settings) (n : ℕ) (t : List ℤ) (room : ℕ) where
       by false b c d e p q r u v z = absurd (false≢true (sym p ∙ eq-eqb (settings-no s) 0 z))
 
 module _ (s : Settings) (n : ℕ) (t : List ℤ) (page : List ℕ) where
-  pub write-refused : (write-no s n t (length page) ≡ 0 → ⊥) → writeOf s n t page ≡ wrote (NotWritten (write-no s n t (length page))) page
-  unfolding writeOf
+  pub write-refused : (write-no s n t (length page) ≡ 0 → ⊥) → write-call s n t page ≡ wrote (NotWritten (write-no s n t (length page))) page
+  unfolding write-call
   write-refused g = rw (ne-eqb (write-no s n t (length page)) 0 g)
 
-  pub write-done : write-no s n t (length page) ≡ 0 → writeOf s n t page ≡ wrote (Written (length (sheet s (rows-of t n)))) (sheet s (rows-of t n) ++ drop (length (sheet s (rows-of t n))) page)
-  unfolding writeOf
+  pub write-done : write-no s n t (length page) ≡ 0 → write-call s n t page ≡ wrote (Written (length (sheet s (rows-of t n)))) (sheet s (rows-of t n) ++ drop (length (sheet s (rows-of t n))) page)
+  unfolding write-call
   write-done e = rw (eq-eqb (write-no s n t (length page)) 0 e)
 
   -- the answer with its numbers
-  pub write-answer : {r : Wrote} {after : List ℕ} → wrote r after ≡ writeOf s n t page
-      → (wrote r after ≡ writeOf s n t page) × (write-numbers r ≡ answer-numbers (write-no s n t (length page)) (pos (length (sheet s (rows-of t n))) ∷ []))
-  unfolding writeOf write-numbers
+  pub write-answer : {r : Wrote} {after : List ℕ} → wrote r after ≡ write-call s n t page
+      → (wrote r after ≡ write-call s n t page) × (write-numbers r ≡ answer-numbers (write-no s n t (length page)) (pos (length (sheet s (rows-of t n))) ∷ []))
+  unfolding write-call write-numbers
   write-answer e = (e, ap (λ (o : WriteOutcome). write-numbers (o .answer)) e ∙ by (eqb (write-no s n t (length page)) 0) refl)
     where
       by : (b : Bool) → eqb (write-no s n t (length page)) 0 ≡ b
@@ -143,27 +142,27 @@ module _ (page : List ℕ) where
   sheet-page h = rw h
 
 module _ (page : List ℕ) (t : List ℤ) where
-  pub read-malformed : (page-no page ≡ 0 → ⊥) → readOf page t ≡ got (NotRead (page-no page)) t
-  unfolding readOf read-no
+  pub read-malformed : (page-no page ≡ 0 → ⊥) → read-call page t ≡ got (NotRead (page-no page)) t
+  unfolding read-call read-no
   read-malformed g = rw (ne-eqb (page-no page) 0 g) (rw (ne-eqb (page-no page) 0 g))
 
-  pub read-short : page-no page ≡ 0 → whole-rows t < frames-in page → readOf page t ≡ got (NotRead 7) t
-  unfolding readOf read-no
+  pub read-short : page-no page ≡ 0 → whole-rows t < frames-in page → read-call page t ≡ got (NotRead 7) t
+  unfolding read-call read-no
   read-short e h = rw (eq-eqb (page-no page) 0 e, lt-leb (frames-in page) (whole-rows t) h)
 
-  pub read-done : page-no page ≡ 0 → frames-in page ≤ whole-rows t → readOf page t ≡ got (Read (settings-in page) (frames-in page)) (numbers-of (rows-in page) ++ drop (frames-in page * 8) t)
-  unfolding readOf read-no
+  pub read-done : page-no page ≡ 0 → frames-in page ≤ whole-rows t → read-call page t ≡ got (Read (sheet-settings page) (frames-in page)) (numbers-of (rows-in page) ++ drop (frames-in page * row-size) t)
+  unfolding read-call read-no
   read-done e h = rw (eq-eqb (page-no page) 0 e, le-leb (frames-in page) (whole-rows t) h)
 
   -- the answer with its numbers
-  pub read-answer : {r : Got} {after : List ℤ} → got r after ≡ readOf page t
-      → (got r after ≡ readOf page t) × (read-numbers r ≡ answer-numbers (read-no page t) (settings-numbers (settings-in page) ++ (pos (frames-in page) ∷ [])))
-  unfolding readOf read-numbers
+  pub read-answer : {r : Got} {after : List ℤ} → got r after ≡ read-call page t
+      → (got r after ≡ read-call page t) × (read-numbers r ≡ answer-numbers (read-no page t) (settings-numbers (sheet-settings page) ++ (pos (frames-in page) ∷ [])))
+  unfolding read-call read-numbers
   read-answer e = (e, ap (λ (o : ReadOutcome). read-numbers (o .answer)) e ∙ by (eqb (read-no page t) 0) refl)
     where
       by : (b : Bool) → eqb (read-no page t) 0 ≡ b
-          → read-numbers (cond b (got (Read (settings-in page) (frames-in page)) (numbers-of (rows-in page) ++ drop (frames-in page * 8) t)) (got (NotRead (read-no page t)) t) .answer)
-          ≡ pos (read-no page t) ∷ cond b (settings-numbers (settings-in page) ++ (pos (frames-in page) ∷ [])) []
+          → read-numbers (cond b (got (Read (sheet-settings page) (frames-in page)) (numbers-of (rows-in page) ++ drop (frames-in page * row-size) t)) (got (NotRead (read-no page t)) t) .answer)
+          ≡ pos (read-no page t) ∷ cond b (settings-numbers (sheet-settings page) ++ (pos (frames-in page) ∷ [])) []
       by true q = rw (eqb-true (read-no page t) 0 q)
       by false q = refl
 
@@ -172,6 +171,6 @@ pub front : {A : Type 0} (l xs : List A) → length xs ≤ length l → sets l 0
 front l xs h = let e : 0 + length xs ≡ length xs = omega arith in sets-eq xs l 0 (omega arith) ∙ ap (λ (n : ℕ). xs ++ drop n l) e
 
 -- the numbers of a page's rows
-pub rows-in-length : (page : List ℕ) → length (numbers-of (rows-in page)) ≡ frames-in page * 8
+pub rows-in-length : (page : List ℕ) → length (numbers-of (rows-in page)) ≡ frames-in page * row-size
 unfolding rows-in
-rows-in-length page = numbers-length (rows-in page) ∙ ap (λ (n : ℕ). n * 8) (length-table (λ i. held (row-in page i)) (frames-in page))
+rows-in-length page = numbers-length (rows-in page) ∙ ap (λ (n : ℕ). n * row-size) (length-tabulate (λ i. held (row-in page i)) (frames-in page))

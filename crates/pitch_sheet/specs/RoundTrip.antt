@@ -15,8 +15,9 @@ use Rattle.sheet_sections.specs.Sheet.{entries, sheet, sheet-length}
 use Rattle.sheet_page.specs.Page.{numbers-of}
 use Rattle.pitch_sheet.specs.declared.Wrote.the-variants.{Written}
 use Rattle.pitch_sheet.specs.declared.Got.the-variants.{Read, Refused as NotRead}
-use Rattle.pitch_sheet.specs.Calls.{whole-rows, wrote, writeOf, got, readOf}
+use Rattle.pitch_sheet.specs.Calls.{whole-rows, wrote, write-call, got, read-call}
 use Rattle.pitch_sheet.specs.Holds.{Holds}
+use Rattle.pitch_table.specs.Row.{row-size}
 
 -- numbers of 32 bits, as a table has them
 abbrev pub Words : List ℤ → Type 0
@@ -32,17 +33,17 @@ pub record IsSheet (p : List ℕ) : Type 0 where
 pub record RoundTrip : Type 0 where
   -- what was written reads back to the same settings, frame count and rows, into any table that has the rows
   pub written-reads : (s : Settings) (n : ℕ) (t : List ℤ) (page : List ℕ) (k : ℕ) (after : List ℕ) → SFits w32 (s .thres1) → SFits w32 (s .thres2) → Words t
-      → writeOf s n t page ≡ wrote (Written k) after
-      → (into : List ℤ) → n ≤ whole-rows into → readOf (take k after) into ≡ got (Read s n) (take (n * 8) t ++ drop (n * 8) into)
+      → write-call s n t page ≡ wrote (Written k) after
+      → (into : List ℤ) → n ≤ whole-rows into → read-call (take k after) into ≡ got (Read s n) (take (n * row-size) t ++ drop (n * row-size) into)
   -- what was read writes back to the same bytes, on any page that has the room
   pub read-writes : (p : List ℕ) (t : List ℤ) (s : Settings) (n : ℕ) (after : List ℤ) → Bytes p
-      → readOf p t ≡ got (Read s n) after
-      → (page : List ℕ) → length p ≤ length page → writeOf s n after page ≡ wrote (Written (length p)) (p ++ drop (length p) page)
+      → read-call p t ≡ got (Read s n) after
+      → (page : List ℕ) → length p ≤ length page → write-call s n after page ≡ wrote (Written (length p)) (p ++ drop (length p) page)
   -- a page is read exactly where it is a sheet: a sheet is read into a table that has the rows, and refused with 7 where the table has fewer; 9 is said of no sheet, and of every other page
-  pub sheet-reads : (s : Settings) (rs : List Row) (t : List ℤ) → Holds s rs → length rs ≤ whole-rows t → readOf (sheet s rs) t ≡ got (Read s (length rs)) (numbers-of rs ++ drop (length rs * 8) t)
-  pub sheet-short : (s : Settings) (rs : List Row) (t : List ℤ) → Holds s rs → whole-rows t < length rs → readOf (sheet s rs) t ≡ got (NotRead 7) t
-  pub nine-no-sheet : (p : List ℕ) (t : List ℤ) → readOf p t .answer ≡ NotRead 9 → IsSheet p → ⊥
-  pub no-sheet-nine : (p : List ℕ) (t : List ℤ) → Bytes p → (IsSheet p → ⊥) → readOf p t .answer ≡ NotRead 9
+  pub sheet-reads : (s : Settings) (rs : List Row) (t : List ℤ) → Holds s rs → length rs ≤ whole-rows t → read-call (sheet s rs) t ≡ got (Read s (length rs)) (numbers-of rs ++ drop (length rs * row-size) t)
+  pub sheet-short : (s : Settings) (rs : List Row) (t : List ℤ) → Holds s rs → whole-rows t < length rs → read-call (sheet s rs) t ≡ got (NotRead 7) t
+  pub nine-no-sheet : (p : List ℕ) (t : List ℤ) → read-call p t .answer ≡ NotRead 9 → IsSheet p → ⊥
+  pub no-sheet-nine : (p : List ℕ) (t : List ℤ) → Bytes p → (IsSheet p → ⊥) → read-call p t .answer ≡ NotRead 9
   -- two sheets with the same bytes are of the same settings and rows
   pub one-meaning : (s s′ : Settings) (rs rs′ : List Row) → Holds s rs → Holds s′ rs′ → sheet s rs ≡ sheet s′ rs′ → (s ≡ s′) × (rs ≡ rs′)
   -- the sizes: four counts, 20 bytes of settings, a byte a frame, 3 and 4 bytes a voiced frame; document 01's three; and the longest

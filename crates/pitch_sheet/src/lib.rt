@@ -7,10 +7,12 @@ ghost use lib.ListN.{length};
 ghost use Rattle.answers.specs.Answer.{answer-numbers};
 ghost use Rattle.pitch_settings.specs.Settings.{settings-no};
 ghost use Rattle.sheet_sections.specs.Sheet.{sheet, rows-of, sheet-length};
-ghost use Rattle.sheet_page.specs.Page.{settings-in, frames-in};
-ghost use Rattle.pitch_sheet.specs.Calls.{rows-hold, write-no, wrote, writeOf, write-numbers, read-no, got, readOf, settings-numbers, read-numbers};
+ghost use Rattle.sheet_page.specs.Page.{sheet-settings, frames-in};
+ghost use Rattle.pitch_sheet.specs.Calls.{rows-hold, write-no, wrote, write-call, write-numbers, read-no, got, read-call, settings-numbers, read-numbers};
+ghost use Rattle.pitch_table.specs.Row.{row-size};
 use pitch_settings::Settings;
 use pitch_settings::settings_no;
+use pitch_table::ROW_SIZE;
 use pitch_table::get_row;
 use sheet_page::head_of;
 use sheet_page::page_no;
@@ -41,7 +43,7 @@ pub fn longest_sheet() -> usize
 
 // Whether a sheet can hold each of the first rows.
 fn rows_hold(s: Settings, table: &[i32], rows: usize) -> bool
-    requires { ⌜ (settings-no s ≡ 0) × (rows * 8 ≤ length (now table)) ⌝ }
+    requires { ⌜ (settings-no s ≡ 0) × (rows * row-size ≤ length (now table)) ⌝ }
     ensures { λ r. ⌜ r ≡ rows-hold s (now (table .entry)) rows ⌝ }
 {
     for i in 0..rows {
@@ -64,7 +66,7 @@ fn write_no(s: Settings, frames: usize, table: &[i32], room: usize) -> usize
     if frames > 4096 {
         return 6;
     }
-    let whole = table.len() / 8;
+    let whole = table.len() / ROW_SIZE;
     if whole < frames {
         if rows_hold(s, table, whole) {
             return 7;
@@ -82,7 +84,7 @@ fn write_no(s: Settings, frames: usize, table: &[i32], room: usize) -> usize
 
 // Writes the sheet of the first rows at the front of the page.
 pub fn write_sheet(s: Settings, frames: usize, table: &[i32], page: &mut [u8]) -> Wrote
-    ensures { λ r. ⌜ wrote r (now (page .exit)) ≡ writeOf s frames (now (table .entry)) (now (page .entry)) ⌝ }
+    ensures { λ r. ⌜ wrote r (now (page .exit)) ≡ write-call s frames (now (table .entry)) (now (page .entry)) ⌝ }
     ensures { λ r. ⌜ write-numbers r ≡ answer-numbers (write-no s frames (now (table .entry)) (length (now (page .entry)))) (pos (length (sheet s (rows-of (now (table .entry)) frames))) ∷ []) ⌝ }
 {
     let no = write_no(s, frames, table, page.len());
@@ -96,8 +98,8 @@ pub fn write_sheet(s: Settings, frames: usize, table: &[i32], page: &mut [u8]) -
 
 // Reads the page's sheet, which must be the whole page, into the first rows of the table.
 pub fn read_sheet(page: &[u8], table: &mut [i32]) -> Got
-    ensures { λ r. ⌜ got r (now (table .exit)) ≡ readOf (now (page .entry)) (now (table .entry)) ⌝ }
-    ensures { λ r. ⌜ read-numbers r ≡ answer-numbers (read-no (now (page .entry)) (now (table .entry))) (settings-numbers (settings-in (now (page .entry))) ++ (pos (frames-in (now (page .entry))) ∷ [])) ⌝ }
+    ensures { λ r. ⌜ got r (now (table .exit)) ≡ read-call (now (page .entry)) (now (table .entry)) ⌝ }
+    ensures { λ r. ⌜ read-numbers r ≡ answer-numbers (read-no (now (page .entry)) (now (table .entry))) (settings-numbers (sheet-settings (now (page .entry))) ++ (pos (frames-in (now (page .entry))) ∷ [])) ⌝ }
 {
     let no = page_no(page);
     if no != 0 {
@@ -105,7 +107,7 @@ pub fn read_sheet(page: &[u8], table: &mut [i32]) -> Got
     }
     let h = head_of(page);
     let frames = h.frames;
-    if table.len() / 8 < frames {
+    if table.len() / ROW_SIZE < frames {
         return Got::Refused(7);
     }
     put_rows(page, h, table);

@@ -3,8 +3,12 @@ ghost use mathlib.Core.Path.{_≡_};
 ghost use Prim.Native.Nat.{_+_, _*_, _≤_};
 ghost use lib.ListN.{length};
 ghost use lib.Seq.{sets};
-ghost use Rattle.pitch_table.specs.Row.{numbers, row-at};
+ghost use Rattle.pitch_table.specs.Row.{row-size, numbers, row-at};
 
+// How many numbers a row has.
+pub const ROW_SIZE: usize = 8;
+
+// A row of a table: what is said of one frame.
 pub struct Row {
     pub verdict: i32,
     // the lag index
@@ -19,10 +23,10 @@ pub struct Row {
 
 // Row i of the table is written.
 pub fn put_row(table: &mut [i32], i: usize, r: Row)
-    requires { ⌜ i * 8 + 8 ≤ length (now table) ⌝ }
-    ensures { λ _. ⌜ now (table .exit) ≡ sets (now (table .entry)) (i * 8) (numbers r) ⌝ }
+    requires { ⌜ i * row-size + row-size ≤ length (now table) ⌝ }
+    ensures { λ _. ⌜ now (table .exit) ≡ sets (now (table .entry)) (i * row-size) (numbers r) ⌝ }
 {
-    let at = i * 8;
+    let at = i * ROW_SIZE;
     let v = r.verdict;
     table[at] = v;
     let v = r.index;
@@ -43,10 +47,10 @@ pub fn put_row(table: &mut [i32], i: usize, r: Row)
 
 // Row i of the table.
 pub fn get_row(table: &[i32], i: usize) -> Row
-    requires { ⌜ i * 8 + 8 ≤ length (now table) ⌝ }
+    requires { ⌜ i * row-size + row-size ≤ length (now table) ⌝ }
     ensures { λ r. ⌜ r ≡ row-at (now (table .entry)) i ⌝ }
 {
-    let at = i * 8;
+    let at = i * ROW_SIZE;
     Row {
         verdict: table[at],
         index: table[at + 1],

@@ -1,5 +1,4 @@
 -- Laws of decimal numbers: the last digit, and how many digits there are.
---
 use mathlib.Core.Path.{_≡_, ap}
 use mathlib.Core.Bool.{cond}
 use mathlib.Core.List.{List, [], _∷_, _++_}

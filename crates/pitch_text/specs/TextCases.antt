@@ -1,18 +1,18 @@
 -- Cases of the definitions, by computation: numbers in decimal, and the row's line of document 01's example.
---
 use mathlib.Core.Path.{_≡_, refl}
 use mathlib.Core.List.{[], _∷_, map}
 use lib.Dec.{lit<}
-use lib.IntN.{pos, negsuc}
+use lib.IntN.{pos}
 use Rattle.zint.specs.Equal.{eqZ}
 use Rattle.pitch_table.specs.declared.Row.{Row}
 use Rattle.pitch_text.specs.Decimal.{digits-to, digits, decimal}
 use Rattle.pitch_text.specs.DecimalLaws.{digits-short}
 use Rattle.pitch_text.specs.Text.{fields, letter-of, values-of, row-text, line-text, refused-text}
+use Rattle.zint.specs.Minus.{minus}
 
 -- 0, −32768, 2147483647 and −2147483648
 pub decimal-cases :
-    map decimal (pos 0 ∷ negsuc 32767 ∷ pos 2147483647 ∷ negsuc 2147483647 ∷ [])
+    map decimal (pos 0 ∷ minus 32768 ∷ pos 2147483647 ∷ minus 2147483648 ∷ [])
     ≡ (48 ∷ [])
     ∷ (45 ∷ 51 ∷ 50 ∷ 55 ∷ 54 ∷ 56 ∷ [])
     ∷ (50 ∷ 49 ∷ 52 ∷ 55 ∷ 52 ∷ 56 ∷ 51 ∷ 54 ∷ 52 ∷ 55 ∷ [])

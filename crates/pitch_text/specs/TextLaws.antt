@@ -1,5 +1,4 @@
 -- Laws of text: one part after another (the laws of `Put`, passed on), one field more, and how long a number is.
---
 use mathlib.Core.Path.{_≡_, refl, sym, ap, ap₂, _∙_}
 use mathlib.Core.List.{List, [], _∷_, _++_, append-assoc, append-nil}
 use Prim.Native.Nat.{ℕ, zero, suc, _+_, _≤_, _<_}
@@ -13,7 +12,7 @@ use lib.ListN.{length, getD, take, drop}
 use lib.Seq.{take-suc, sets-eq}
 use mir.Syntax.{w32}
 use mir.Val.{SFits}
-use Rattle.lists.specs.Push.{headed}
+use Rattle.lists.specs.Fill.{overwritten}
 pub use Rattle.lists.specs.PutLaws.{put-then, put-as, put-end, put-one as put-byte, put-next, put-none, put-front}
 use Rattle.pitch_text.specs.Decimal.{digits, decimal}
 use Rattle.pitch_text.specs.DecimalLaws.{digits-few}
@@ -24,8 +23,8 @@ use Rattle.pitch_text.specs.Text.{Put, fields, values-of, line-text, lin
 pub put-count : {l a xs : List ℕ} {end : ℕ} → Put l 0 xs end a → end ≡ length xs
 put-count {xs = xs} p = omega (arith, p .ends)
 
-pub put-over : {l a xs : List ℕ} {end : ℕ} → Put l 0 xs end a → end ≤ length l → a ≡ headed xs l
-unfolding headed
+pub put-over : {l a xs : List ℕ} {end : ℕ} → Put l 0 xs end a → end ≤ length l → a ≡ overwritten xs l
+unfolding overwritten
 put-over {l} {a} {xs} p h =
     let z : 0 + length xs ≡ length xs = omega arith in
     p .holds ∙ sets-eq xs l 0 (omega (arith, p .ends)) ∙ ap (λ (n : ℕ). xs ++ drop n l) z

@@ -1,4 +1,4 @@
--- The answers of `startOf` and `deliverOf` in numbers, and the two cases of `deliverOf`.
+-- The answers of `start-call` and `deliver-call` in numbers, and the two cases of `deliver-call`.
 use Prim.Native.Nat.{ℕ, _+_, _-_, _*_}
 use mathlib.Core.Path.{_≡_, refl, sym, ap, _∙_}
 use mathlib.Core.List.{List, [], _∷_, _++_}
@@ -16,64 +16,65 @@ use Rattle.pitch_track.specs.declared.Started.{Started}
 use Rattle.pitch_track.specs.declared.Delivered.{Delivered}
 use Rattle.pitch_track.specs.declared.Answer.the-variants.{Accepted, Refused}
 use Rattle.pitch_settings.specs.Settings.{settings-no, hop-length}
-use Rattle.pitch_track.specs.Paper.{F, before, rowsOf}
-use Rattle.pitch_track.specs.Step.{padded, answerOf, answer-in-numbers, startOf, numberOf, pendingOf, prevOf, noOf, doneOf, Outcome, outcome, acceptedOf, deliverOf}
+use Rattle.pitch_track.specs.Paper.{F, previous, paper-numbers}
+use Rattle.pitch_track.specs.Step.{padded, answer-of, track-answer-numbers, start-call, answer-no, pending, previous-of, delivery-no, frames-after, DeliveryOutcome, delivery-outcome, accepted-delivery, deliver-call}
+use Rattle.pitch_table.specs.Row.{row-size}
 
 -- the number that `start` says is that of the settings
-pub start-number : (s : Settings) → numberOf (startOf s .answer) ≡ settings-no s
-unfolding startOf answerOf
+pub start-number : (s : Settings) → answer-no (start-call s .answer) ≡ settings-no s
+unfolding start-call answer-of
 start-number s = by (eqb (settings-no s) 0) refl
   where
-    by : (b : Bool) → eqb (settings-no s) 0 ≡ b → numberOf (cond b (Accepted 0) (Refused (settings-no s))) ≡ settings-no s
+    by : (b : Bool) → eqb (settings-no s) 0 ≡ b → answer-no (cond b (Accepted 0) (Refused (settings-no s))) ≡ settings-no s
     by true e = sym (eqb-true (settings-no s) 0 e)
     by false e = refl
 
 -- an answer by its number, in numbers
-answered : (n f : ℕ) → answer-in-numbers (answerOf n f) ≡ answer-numbers n (pos f ∷ [])
-unfolding answerOf
+answered : (n f : ℕ) → track-answer-numbers (answer-of n f) ≡ answer-numbers n (pos f ∷ [])
+unfolding answer-of
 answered n f = by (eqb n 0) refl
   where
-    by : (b : Bool) → eqb n 0 ≡ b → answer-in-numbers (cond b (Accepted f) (Refused n)) ≡ pos n ∷ cond b (pos f ∷ []) []
+    by : (b : Bool) → eqb n 0 ≡ b → track-answer-numbers (cond b (Accepted f) (Refused n)) ≡ pos n ∷ cond b (pos f ∷ []) []
     by true e = ap (λ (k : ℕ). pos k ∷ pos f ∷ []) (sym (eqb-true n 0 e))
     by false e = refl
 
-pub started : (s : Settings) (r : Started) → r ≡ startOf s → (r ≡ startOf s) × (answer-in-numbers (r .answer) ≡ answer-numbers (settings-no s) (pos 0 ∷ []))
-unfolding startOf
-started s r e = (e, ap (λ (q : Started). answer-in-numbers (q .answer)) e ∙ answered (settings-no s) 0)
+pub started : (s : Settings) (r : Started) → r ≡ start-call s → (r ≡ start-call s) × (track-answer-numbers (r .answer) ≡ answer-numbers (settings-no s) (pos 0 ∷ []))
+unfolding start-call
+started s r e = (e, ap (λ (q : Started). track-answer-numbers (q .answer)) e ∙ answered (settings-no s) 0)
 
 module _ (tr : Track) (t d : List ℤ) where
-  answer-is : deliverOf tr t d .delivered .answer ≡ answerOf (noOf tr t d) (doneOf tr d)
-  unfolding deliverOf acceptedOf answerOf
-  answer-is = by (eqb (noOf tr t d) 0)
+  answer-is : deliver-call tr t d .delivered .answer ≡ answer-of (delivery-no tr t d) (frames-after tr d)
+  unfolding deliver-call accepted-delivery answer-of
+  answer-is = by (eqb (delivery-no tr t d) 0)
     where
       by : (b : Bool)
-          → cond b (acceptedOf tr t d (F (tr .settings) (tr .count + length d))) (outcome (record { answer = Refused (noOf tr t d); track = tr }) t) .delivered .answer
-          ≡ cond b (Accepted (doneOf tr d)) (Refused (noOf tr t d))
+          → cond b (accepted-delivery tr t d (F (tr .settings) (tr .count + length d))) (delivery-outcome (record { answer = Refused (delivery-no tr t d); track = tr }) t) .delivered .answer
+          ≡ cond b (Accepted (frames-after tr d)) (Refused (delivery-no tr t d))
       by true = refl
       by false = refl
 
-  pub delivers : (r : Delivered) (table : List ℤ) → outcome r table ≡ deliverOf tr t d
-      → (outcome r table ≡ deliverOf tr t d) × (answer-in-numbers (r .answer) ≡ answer-numbers (noOf tr t d) (pos (doneOf tr d) ∷ []))
-  delivers r table e = (e, ap answer-in-numbers (ap (λ (o : Outcome). o .delivered .answer) e ∙ answer-is) ∙ answered (noOf tr t d) (doneOf tr d))
+  pub delivers : (r : Delivered) (table : List ℤ) → delivery-outcome r table ≡ deliver-call tr t d
+      → (delivery-outcome r table ≡ deliver-call tr t d) × (track-answer-numbers (r .answer) ≡ answer-numbers (delivery-no tr t d) (pos (frames-after tr d) ∷ []))
+  delivers r table e = (e, ap track-answer-numbers (ap (λ (o : DeliveryOutcome). o .delivered .answer) e ∙ answer-is) ∙ answered (delivery-no tr t d) (frames-after tr d))
 
-  pub refuses : (noOf tr t d ≡ 0 → ⊥) → deliverOf tr t d ≡ outcome (record { answer = Refused (noOf tr t d); track = tr }) t
-  unfolding deliverOf
-  refuses h = rw (ne-eqb (noOf tr t d) 0 h)
+  pub refuses : (delivery-no tr t d ≡ 0 → ⊥) → deliver-call tr t d ≡ delivery-outcome (record { answer = Refused (delivery-no tr t d); track = tr }) t
+  unfolding deliver-call
+  refuses h = rw (ne-eqb (delivery-no tr t d) 0 h)
 
-  pub accepts : noOf tr t d ≡ 0 → deliverOf tr t d ≡ acceptedOf tr t d (F (tr .settings) (tr .count + length d))
-  unfolding deliverOf
-  accepts h = rw (eq-eqb (noOf tr t d) 0 h)
+  pub accepts : delivery-no tr t d ≡ 0 → deliver-call tr t d ≡ accepted-delivery tr t d (F (tr .settings) (tr .count + length d))
+  unfolding deliver-call
+  accepts h = rw (eq-eqb (delivery-no tr t d) 0 h)
 
   pub made : (k n : ℕ) (held : List ℤ) (left : ℕ) (lag corr : ℤ) (table : List ℤ)
       → n ≡ tr .frames + k
-      → held ≡ padded (drop (k * hop-length (tr .settings)) (pendingOf tr d))
+      → held ≡ padded (drop (k * hop-length (tr .settings)) (pending tr d))
       → left ≡ tr .count + length d - k * hop-length (tr .settings)
-      → lag ≡ before (tr .settings) (pendingOf tr d) (prevOf tr) k .lag
-      → corr ≡ before (tr .settings) (pendingOf tr d) (prevOf tr) k .correlation
-      → table ≡ take (tr .frames * 8) t ++ rowsOf (tr .settings) (pendingOf tr d) (prevOf tr) k ++ drop ((tr .frames + k) * 8) t
-      → outcome (record { answer = Accepted n; track = record { settings = tr .settings; frames = n; held = held; count = left; lag = lag; correlation = corr } }) table
-      ≡ acceptedOf tr t d k
-  unfolding acceptedOf
+      → lag ≡ previous (tr .settings) (pending tr d) (previous-of tr) k .lag
+      → corr ≡ previous (tr .settings) (pending tr d) (previous-of tr) k .correlation
+      → table ≡ take (tr .frames * row-size) t ++ paper-numbers (tr .settings) (pending tr d) (previous-of tr) k ++ drop ((tr .frames + k) * row-size) t
+      → delivery-outcome (record { answer = Accepted n; track = record { settings = tr .settings; frames = n; held = held; count = left; lag = lag; correlation = corr } }) table
+      ≡ accepted-delivery tr t d k
+  unfolding accepted-delivery
   made k n held left lag corr table a b c d e f = rw (a, b, c, d, e, f)
 
 -- what is gathered after the last new frame's start is all that is left

@@ -7,7 +7,7 @@ use native.Mathlib.Nat.{div-mul-le-self, lt-div-mul-add, mul-le-mul-right, add-m
 use native.Mathlib.Omega.{arith}
 use lib.Dec.{ltb}
 use borrow.Author.Tests.{lt-ltb, le-ltb, ltb-true, ltb-false}
-use Rattle.pitch_track.specs.Paper.{framesIn}
+use Rattle.pitch_track.specs.Paper.{frame-count}
 
 pub lt-or-le : (m n : ℕ) → (m < n) ⊎ (n ≤ m)
 lt-or-le zero zero = inr (omega arith)
@@ -23,17 +23,17 @@ eq-or-ne a b =
     (lt-or-le a b)
 
 module _ (len hop : ℕ) where
-  pub short : (n : ℕ) → n < len → framesIn len hop n ≡ 0
-  unfolding framesIn
+  pub short : (n : ℕ) → n < len → frame-count len hop n ≡ 0
+  unfolding frame-count
   short n h = rw lt-ltb
 
-  pub long : (n : ℕ) → len ≤ n → framesIn len hop n ≡ 1 + (n - len) / hop
-  unfolding framesIn
+  pub long : (n : ℕ) → len ≤ n → frame-count len hop n ≡ 1 + (n - len) / hop
+  unfolding frame-count
   long n h = rw le-ltb
 
 module _ (len hop : ℕ) (some : 0 < hop) (within : hop ≤ len) where
   -- frame k, below F(n), lies within the n samples
-  pub fits : (n k : ℕ) → k < framesIn len hop n → k * hop + len ≤ n
+  pub fits : (n k : ℕ) → k < frame-count len hop n → k * hop + len ≤ n
   fits n k h =
       ⊎-elim
       (λ (p : n < len). omega (arith, short len hop n p))
@@ -43,7 +43,7 @@ module _ (len hop : ℕ) (some : 0 < hop) (within : hop ≤ len) where
       (lt-or-le n len)
 
   -- what is left after the last frame's start is no frame
-  pub rest : (n : ℕ) → n < framesIn len hop n * hop + len
+  pub rest : (n : ℕ) → n < frame-count len hop n * hop + len
   rest n =
       ⊎-elim
       (λ (p : n < len). omega arith)
@@ -51,19 +51,19 @@ module _ (len hop : ℕ) (some : 0 < hop) (within : hop ≤ len) where
       (lt-or-le n len)
 
   -- F(n) is the one number with these two
-  pub unique : (n k : ℕ) → ((j : ℕ) → j < k → j * hop + len ≤ n) → n < k * hop + len → framesIn len hop n ≡ k
+  pub unique : (n k : ℕ) → ((j : ℕ) → j < k → j * hop + len ≤ n) → n < k * hop + len → frame-count len hop n ≡ k
   unique n k all end =
       ⊎-elim
-      (λ (p : framesIn len hop n < k). omega (arith, all _ p, rest n))
-      (λ (p : k ≤ framesIn len hop n).
+      (λ (p : frame-count len hop n < k). omega (arith, all _ p, rest n))
+      (λ (p : k ≤ frame-count len hop n).
       ⊎-elim
-      (λ (q : k < framesIn len hop n). omega (arith, fits n k q))
-      (λ (q : framesIn len hop n ≤ k). omega arith)
-      (lt-or-le k (framesIn len hop n)))
-      (lt-or-le (framesIn len hop n) k)
+      (λ (q : k < frame-count len hop n). omega (arith, fits n k q))
+      (λ (q : frame-count len hop n ≤ k). omega arith)
+      (lt-or-le k (frame-count len hop n)))
+      (lt-or-le (frame-count len hop n) k)
 
   -- the frames' starts lie within the n samples, and so does the start of what is left
-  pub starts : (n : ℕ) → framesIn len hop n * hop ≤ n
+  pub starts : (n : ℕ) → frame-count len hop n * hop ≤ n
   starts n =
       ⊎-elim
       (λ (p : n < len). rw (short len hop n p) (omega arith))
@@ -71,11 +71,11 @@ module _ (len hop : ℕ) (some : 0 < hop) (within : hop ≤ len) where
       (lt-or-le n len)
 
   -- F goes by parts: the frames in n + d samples are those in n, and those in what n leaves with the d that follow
-  pub parts : (n d : ℕ) → framesIn len hop n + framesIn len hop (n - framesIn len hop n * hop + d) ≡ framesIn len hop (n + d)
+  pub parts : (n d : ℕ) → frame-count len hop n + frame-count len hop (n - frame-count len hop n * hop + d) ≡ frame-count len hop (n + d)
   parts n d =
-      let f : ℕ = framesIn len hop n in
-      let m : ℕ = n - framesIn len hop n * hop + d in
-      let k : ℕ = framesIn len hop (n - framesIn len hop n * hop + d) in
+      let f : ℕ = frame-count len hop n in
+      let m : ℕ = n - frame-count len hop n * hop + d in
+      let k : ℕ = frame-count len hop (n - frame-count len hop n * hop + d) in
       sym
       (unique (n + d) (f + k)
       (λ j (h : j < f + k).
@@ -88,9 +88,9 @@ module _ (len hop : ℕ) (some : 0 < hop) (within : hop ≤ len) where
       (rw add-mul (omega (arith, rest m, starts n))))
 
   -- m frames more than fit: F(n) is above m
-  pub many : (n m : ℕ) → m * hop + len ≤ n → m < framesIn len hop n
+  pub many : (n m : ℕ) → m * hop + len ≤ n → m < frame-count len hop n
   many n m h =
       ⊎-elim
-      (λ (p : m < framesIn len hop n). p)
-      (λ (p : framesIn len hop n ≤ m). omega (arith, rest n, mul-le-mul-right hop p))
-      (lt-or-le m (framesIn len hop n))
+      (λ (p : m < frame-count len hop n). p)
+      (λ (p : frame-count len hop n ≤ m). omega (arith, rest n, mul-le-mul-right hop p))
+      (lt-or-le m (frame-count len hop n))

@@ -1,4 +1,4 @@
--- What each test of `refusal` says of `refusalOf`.
+-- What each test of `refusal` says of `delivery-refusal`.
 use Prim.Native.Nat.{ℕ, _+_, _*_, _/_, _≤_, _<_}
 use mathlib.Core.Path.{_≡_}
 use mathlib.Core.Bool.{false}
@@ -9,40 +9,41 @@ use borrow.Author.Tests.{eq-eqb, ne-eqb, lt-ltb, le-ltb, le-leb, lt-leb}
 use Rattle.pitch_settings.specs.declared.Settings.{Settings}
 use Rattle.pitch_settings.specs.Settings.{frame-length, settings-no}
 use Rattle.pitch_track.specs.Paper.{F}
-use Rattle.pitch_track.specs.Step.{first-no, refusalOf}
+use Rattle.pitch_track.specs.Step.{first-refusal, delivery-refusal}
+use Rattle.pitch_table.specs.Row.{row-size}
 use Rattle.pitch_track.proofs.Frames.{lt-or-le, eq-or-ne}
 
 module _ (s : Settings) (f h d n : ℕ) where
-  pub bad : (settings-no s ≡ 0 → ⊥) → refusalOf s f h d n ≡ settings-no s
-  unfolding refusalOf
+  pub bad : (settings-no s ≡ 0 → ⊥) → delivery-refusal s f h d n ≡ settings-no s
+  unfolding delivery-refusal
   bad p = rw (ne-eqb _ _ p)
 
   module _ (ok : settings-no s ≡ 0) where
-    pub six : 4096 < f + F s (h + d) → refusalOf s f h d n ≡ 6
-    unfolding refusalOf
+    pub six : 4096 < f + F s (h + d) → delivery-refusal s f h d n ≡ 6
+    unfolding delivery-refusal
     six p = rw (eq-eqb _ _ ok, lt-ltb _ _ p)
 
     module _ (fits : f + F s (h + d) ≤ 4096) where
       -- what is left to be tested
-      pub later : refusalOf s f h d n ≡ first-no 0 false (leb (frame-length s) h) (ltb 0 (F s (h + d))) (ltb (n / 8) (f + F s (h + d)))
-      unfolding refusalOf
+      pub later : delivery-refusal s f h d n ≡ first-refusal 0 false (leb (frame-length s) h) (ltb 0 (F s (h + d))) (ltb (n / row-size) (f + F s (h + d)))
+      unfolding delivery-refusal
       later = rw (eq-eqb _ _ ok, le-ltb _ _ fits)
 
-      pub nine : frame-length s ≤ h → refusalOf s f h d n ≡ 9
-      unfolding refusalOf
+      pub nine : frame-length s ≤ h → delivery-refusal s f h d n ≡ 9
+      unfolding delivery-refusal
       nine p = rw (eq-eqb _ _ ok, le-ltb _ _ fits, le-leb _ _ p)
 
       module _ (few : h < frame-length s) where
-        pub seven : 0 < F s (h + d) → n / 8 < f + F s (h + d) → refusalOf s f h d n ≡ 7
-        unfolding refusalOf
+        pub seven : 0 < F s (h + d) → n / row-size < f + F s (h + d) → delivery-refusal s f h d n ≡ 7
+        unfolding delivery-refusal
         seven p q = rw (eq-eqb _ _ ok, le-ltb _ _ fits, lt-leb _ _ few, lt-ltb _ _ p, lt-ltb _ _ q)
 
-        pub room : 0 < F s (h + d) → f + F s (h + d) ≤ n / 8 → refusalOf s f h d n ≡ 0
-        unfolding refusalOf
+        pub room : 0 < F s (h + d) → f + F s (h + d) ≤ n / row-size → delivery-refusal s f h d n ≡ 0
+        unfolding delivery-refusal
         room p q = rw (eq-eqb _ _ ok, le-ltb _ _ fits, lt-leb _ _ few, lt-ltb _ _ p, le-ltb _ _ q)
 
-        pub none : F s (h + d) ≤ 0 → refusalOf s f h d n ≡ 0
-        unfolding refusalOf
+        pub none : F s (h + d) ≤ 0 → delivery-refusal s f h d n ≡ 0
+        unfolding delivery-refusal
         none p = rw (eq-eqb _ _ ok, le-ltb _ _ fits, lt-leb _ _ few, le-ltb _ _ p)
 
 -- what is known of a delivery that is not refused
@@ -50,9 +51,9 @@ pub record Passed (s : Settings) (f h d n : ℕ) : Type 0 where
   pub ok : settings-no s ≡ 0
   pub fits : f + F s (h + d) ≤ 4096
   pub few : h < frame-length s
-  pub room : 0 < F s (h + d) → (f + F s (h + d)) * 8 ≤ n
+  pub room : 0 < F s (h + d) → (f + F s (h + d)) * row-size ≤ n
 
-pub passed : (s : Settings) (f h d n : ℕ) → refusalOf s f h d n ≡ 0 → Passed s f h d n
+pub passed : (s : Settings) (f h d n : ℕ) → delivery-refusal s f h d n ≡ 0 → Passed s f h d n
 passed s f h d n e =
     let ok : settings-no s ≡ 0 =
     ⊎-elim (λ p. p) (λ p. absurd (p (omega (arith, bad s f h d n p)))) (eq-or-ne (settings-no s) 0) in
@@ -66,5 +67,5 @@ passed s f h d n e =
       few = few;
       room =
           λ q. ⊎-elim (λ p. absurd (omega (arith, seven s f h d n ok fits few q p))) (λ p. omega arith)
-          (lt-or-le (n / 8) (f + F s (h + d)));
+          (lt-or-le (n / row-size) (f + F s (h + d)));
     }

@@ -5,11 +5,11 @@ use mathlib.Core.List.{List, [], _∷_, map}
 use lib.IntN.{pos}
 use Rattle.pitch_settings.specs.declared.Settings.{Settings}
 use Rattle.pitch_settings.specs.Settings.{frame-length, hop-length}
-use Rattle.pitch_track.specs.Paper.{F, framesIn}
+use Rattle.pitch_track.specs.Paper.{F, frame-count}
 
 abbrev eight : Settings
 eight = record { rate = 8; nb = 4; complexity = 0; thres1 = pos 0; thres2 = pos 0 }
 
 pub cases : map (F eight) (319 ∷ 320 ∷ 479 ∷ 480 ∷ []) ≡ 0 ∷ 1 ∷ 1 ∷ 2 ∷ []
-unfolding framesIn frame-length hop-length
+unfolding frame-count frame-length hop-length
 cases = refl

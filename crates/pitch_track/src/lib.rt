@@ -7,13 +7,15 @@ ghost use lib.ListN.{length, take, drop, getD};
 ghost use lib.IntN.{pos};
 ghost use Rattle.pitch_settings.specs.Settings.{settings-no, frame-length, hop-length};
 ghost use Rattle.silk_pitch_analysis.specs.declared.RowAnswer.the-variants.{Analysed};
-ghost use Rattle.pitch_track.specs.Paper.{framesIn, F, rowOf, after, before, rowsOf};
-ghost use Rattle.pitch_track.specs.Step.{padded, startOf, first-no, refusalOf, noOf, doneOf, deliverOf, outcome, numberOf, answer-in-numbers};
+ghost use Rattle.pitch_track.specs.Paper.{frame-count, F, next-row, after, previous, paper-numbers};
+ghost use Rattle.pitch_track.specs.Step.{padded, start-call, first-refusal, delivery-refusal, delivery-no, frames-after, deliver-call, delivery-outcome, answer-no, track-answer-numbers};
 ghost use Rattle.answers.specs.Answer.{answer-numbers};
+ghost use Rattle.pitch_table.specs.Row.{row-size};
 use pitch_settings::Settings;
 use pitch_settings::frame_length;
 use pitch_settings::hop_length;
 use pitch_settings::settings_no;
+use pitch_table::ROW_SIZE;
 use pitch_table::Row;
 use pitch_table::put_row;
 use silk_pitch_analysis::RowAnswer;
@@ -51,7 +53,7 @@ pub struct Delivered {
 
 fn frames_in(len: usize, hop: usize, n: usize) -> usize
     requires { ⌜ (0 < hop) × (hop ≤ len) ⌝ }
-    ensures { λ r. ⌜ r ≡ framesIn len hop n ⌝ }
+    ensures { λ r. ⌜ r ≡ frame-count len hop n ⌝ }
 {
     if n < len {
         return 0;
@@ -61,7 +63,7 @@ fn frames_in(len: usize, hop: usize, n: usize) -> usize
 
 // The order of the refusals, or 0: `wrong` is the settings' number, `long` stands for 6 and `full` for 9; 7 comes where there are new frames and the table is short.
 fn first_no(wrong: usize, long: bool, full: bool, new: bool, short: bool) -> usize
-    ensures { λ r. ⌜ r ≡ first-no wrong long full new short ⌝ }
+    ensures { λ r. ⌜ r ≡ first-refusal wrong long full new short ⌝ }
 {
     if wrong != 0 {
         return wrong;
@@ -111,9 +113,9 @@ fn is_full(s: Settings, count: usize) -> bool
 
 // Whether a table has fewer whole rows than frames.
 fn is_short(frames: usize, numbers: usize) -> bool
-    ensures { λ r. ⌜ r ≡ ltb (numbers / 8) frames ⌝ }
+    ensures { λ r. ⌜ r ≡ ltb (numbers / row-size) frames ⌝ }
 {
-    if frames > numbers / 8 {
+    if frames > numbers / ROW_SIZE {
         return true;
     }
     false
@@ -122,7 +124,7 @@ fn is_short(frames: usize, numbers: usize) -> bool
 // The refusal of a delivery, or 0.
 fn refusal(s: Settings, frames: usize, count: usize, d: usize, numbers: usize) -> usize
     requires { ⌜ d < 4611686018427387904 ⌝ }
-    ensures { λ r. ⌜ r ≡ refusalOf s frames count d numbers ⌝ }
+    ensures { λ r. ⌜ r ≡ delivery-refusal s frames count d numbers ⌝ }
 {
     let wrong = settings_no(s);
     if wrong != 0 {
@@ -188,7 +190,7 @@ fn window_row(
     p: Prev,
 ) -> RowAnswer
     requires { ⌜ (settings-no s ≡ 0) × (count ≤ length (now held)) × (from + frame-length s ≤ count + length (now samples)) ⌝ }
-    ensures { λ r. ⌜ r ≡ Analysed (rowOf s (take (frame-length s) (drop from (take count (now (held .entry)) ++ now (samples .entry)))) p) ⌝ }
+    ensures { λ r. ⌜ r ≡ Analysed (next-row s (take (frame-length s) (drop from (take count (now (held .entry)) ++ now (samples .entry)))) p) ⌝ }
 {
     let len = frame_length(s);
     let buffer = gather(held, count, samples, from, len);
@@ -210,13 +212,13 @@ fn put_rows(
 ) -> Prev
     requires { ⌜ (settings-no s ≡ 0)
         × (count ≤ length (now held))
-        × (new ≡ framesIn (frame-length s) (hop-length s) (count + length (now samples)))
-        × (0 < new → (frames + new) * 8 ≤ length (now table)) ⌝ }
-    ensures { λ r. ⌜ r ≡ before s (take count (now (held .entry)) ++ now (samples .entry)) p new ⌝ }
+        × (new ≡ frame-count (frame-length s) (hop-length s) (count + length (now samples)))
+        × (0 < new → (frames + new) * row-size ≤ length (now table)) ⌝ }
+    ensures { λ r. ⌜ r ≡ previous s (take count (now (held .entry)) ++ now (samples .entry)) p new ⌝ }
     ensures { λ _. ⌜ now (table .exit)
-        ≡ take (frames * 8) (now (table .entry))
-        ++ rowsOf s (take count (now (held .entry)) ++ now (samples .entry)) p new
-        ++ drop ((frames + new) * 8) (now (table .entry)) ⌝ }
+        ≡ take (frames * row-size) (now (table .entry))
+        ++ paper-numbers s (take count (now (held .entry)) ++ now (samples .entry)) p new
+        ++ drop ((frames + new) * row-size) (now (table .entry)) ⌝ }
 {
     let hop = hop_length(s);
     let mut q = p;
@@ -237,8 +239,8 @@ fn put_rows(
 
 impl Track {
     pub fn start(s: Settings) -> Started
-        ensures { λ r. ⌜ r ≡ startOf s ⌝ }
-        ensures { λ r. ⌜ answer-in-numbers (r .answer) ≡ answer-numbers (settings-no s) (pos 0 ∷ []) ⌝ }
+        ensures { λ r. ⌜ r ≡ start-call s ⌝ }
+        ensures { λ r. ⌜ track-answer-numbers (r .answer) ≡ answer-numbers (settings-no s) (pos 0 ∷ []) ⌝ }
     {
         let no = settings_no(s);
         let answer = if no == 0 {
@@ -259,8 +261,8 @@ impl Track {
     }
 
     pub fn deliver(mut self, samples: &[i16], table: &mut [i32]) -> Delivered
-        ensures { λ r. ⌜ outcome r (now (table .exit)) ≡ deliverOf self (now (table .entry)) (now (samples .entry)) ⌝ }
-        ensures { λ r. ⌜ answer-in-numbers (r .answer) ≡ answer-numbers (noOf self (now (table .entry)) (now (samples .entry))) (pos (doneOf self (now (samples .entry))) ∷ []) ⌝ }
+        ensures { λ r. ⌜ delivery-outcome r (now (table .exit)) ≡ deliver-call self (now (table .entry)) (now (samples .entry)) ⌝ }
+        ensures { λ r. ⌜ track-answer-numbers (r .answer) ≡ answer-numbers (delivery-no self (now (table .entry)) (now (samples .entry))) (pos (frames-after self (now (samples .entry))) ∷ []) ⌝ }
     {
         let s = self.settings;
         let frames = self.frames;
@@ -304,7 +306,7 @@ impl Track {
 
 // An answer as one number: 0, or the refusal's.
 pub fn number(a: Answer) -> usize
-    ensures { λ r. ⌜ r ≡ numberOf a ⌝ }
+    ensures { λ r. ⌜ r ≡ answer-no a ⌝ }
 {
     match a {
         Answer::Accepted(_) => 0,

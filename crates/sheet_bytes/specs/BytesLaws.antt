@@ -1,5 +1,4 @@
 -- Laws of little-endian numbers: bytes and number are each other's inverse, and the steps by which the code takes them apart and puts them together.
---
 use mathlib.Core.Path.{_≡_, refl, sym, ap, ap₂, _∙_}
 use mathlib.Core.List.{List, [], _∷_, _++_}
 use Prim.Native.Nat.{ℕ, zero, suc, _+_, _-_, _*_, _/_, _%_, _^_, _≤_, _<_}
@@ -12,7 +11,7 @@ use lib.ListN.{length, getD, take, drop, set, length-drop}
 use lib.Seq.{drop-cons, drop-at, take-at, sets, getD-drop, length-take-le}
 use mir.Syntax.{w32}
 use mir.Val.{SFits}
-use Rattle.zint.specs.Diff.{eq-of, add-ud, zarith}
+use Rattle.zint.specs.DiffLaws.{eq-of, add-ud, zarith}
 use Rattle.zint.specs.Wrap.{modZ, wrap}
 use Rattle.zint.specs.WrapLaws.{modZ-is, modZ-lt, modZ-cong, wrap-cong, wrap-is, cong-sym}
 use Rattle.sheet_bytes.specs.Bytes.{Bytes, low-bytes, number, number-at, word, signed, signed-at}

@@ -7,7 +7,7 @@ use lib.Dec.{eqb, leb}
 use lib.IntN.{ℤ, pos}
 use lib.ListN.{length, getD}
 use Rattle.best.specs.Best.{every}
-use Rattle.lists.specs.Fill.{table}
+use Rattle.lists.specs.Fill.{tabulate}
 use Rattle.pitch_settings.specs.declared.Settings.{Settings}
 use Rattle.pitch_settings.specs.Settings.{settings-no}
 use Rattle.pitch_table.specs.declared.Row.{Row}
@@ -20,8 +20,8 @@ use Rattle.sheet_sections.specs.Sheet.{sheet-length}
 use Rattle.sheet_page.specs.declared.Head.{Head}
 
 -- the settings after their count, then the frames' count, then a byte a frame, its verdict
-unfoldable pub settings-in : List ℕ → Settings
-settings-in p =
+unfoldable pub sheet-settings : List ℕ → Settings
+sheet-settings p =
     record {
       rate = number-at 4 p 4;
       nb = number-at 4 p 8;
@@ -45,7 +45,7 @@ unfoldable pub voiced-in : List ℕ → ℕ
 voiced-in p = voiced-before p (frames-in p)
 
 abbrev pub head-in : List ℕ → Head
-head-in p = record { settings = settings-in p; frames = frames-in p; voiced = voiced-in p }
+head-in p = record { settings = sheet-settings p; frames = frames-in p; voiced = voiced-in p }
 
 -- where the pairs' count stands, and after it the pair of frame i where it is voiced; where the correlations' count stands, and after it the correlation of frame i
 unfoldable pub pairs-from : List ℕ → ℕ
@@ -64,8 +64,8 @@ correlation-place p i = correlations-from p + 4 + 4 * voiced-before p i
 unfoldable pub row-in : List ℕ → ℕ → RowRead
 row-in p i =
     cond (eqb (verdict-in p i) 0)
-    (row-of (settings-in p) (pos 0) (pos (number-at 2 p (pair-place p i))) (pos (getD p (pair-place p i + 2) 0)) (signed-at p (correlation-place p i)))
-    (row-of (settings-in p) (pos (verdict-in p i)) (pos 0) (pos 0) (pos 0))
+    (row-of (sheet-settings p) (pos 0) (pos (number-at 2 p (pair-place p i))) (pos (getD p (pair-place p i + 2) 0)) (signed-at p (correlation-place p i)))
+    (row-of (sheet-settings p) (pos (verdict-in p i)) (pos 0) (pos 0) (pos 0))
 
 unfoldable pub readable : RowRead → Bool
 readable (Held r) = true
@@ -75,7 +75,7 @@ readable Bad = false
 
 -- the settings' section and the frames' count, 28 bytes, are there; five settings that are accepted, and at most 4,096 frames
 unfoldable pub head-good : List ℕ → Bool
-head-good p = leb 28 (length p) && (eqb (number-at 4 p 0) 5 && (eqb (settings-no (settings-in p)) 0 && leb (frames-in p) 4096))
+head-good p = leb 28 (length p) && (eqb (number-at 4 p 0) 5 && (eqb (settings-no (sheet-settings p)) 0 && leb (frames-in p) 4096))
 
 -- no byte is missing and none follows; the pairs and the correlations number the voiced verdicts
 unfoldable pub sizes-good : List ℕ → Bool
@@ -102,7 +102,7 @@ held (Held r) = r
 held Bad = quiet-row (pos 1)
 
 unfoldable pub rows-in : List ℕ → List Row
-rows-in p = table (λ i. held (row-in p i)) (frames-in p)
+rows-in p = tabulate (λ i. held (row-in p i)) (frames-in p)
 
 -- the numbers of rows, row after row, as a table has them
 unfoldable pub numbers-of : List Row → List ℤ

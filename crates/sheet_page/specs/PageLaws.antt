@@ -1,5 +1,4 @@
 -- What a page that is a sheet says, place by place, and the steps by which the code reads it.
---
 use mathlib.Core.Path.{_≡_, refl, sym, ap, _∙_}
 use mathlib.Core.Bool.{Bool, true, false, _&&_, cond, false≢true}
 use mathlib.Core.List.{List, [], _∷_, _++_, append-assoc}
@@ -15,11 +14,12 @@ use lib.Seq.{sets}
 use mir.Syntax.{w32}
 use mir.Val.{ofZ}
 use Rattle.best.specs.BestLaws.{every-true, every-false}
-use Rattle.lists.specs.Fill.{table, length-table}
+use Rattle.lists.specs.Fill.{tabulate}
+use Rattle.lists.specs.FillLaws.{length-tabulate}
 use Rattle.zint.specs.BoolLaws.{and-left, and-right}
 use Rattle.pitch_settings.specs.Settings.{settings-no}
 use Rattle.pitch_table.specs.declared.Row.{Row}
-use Rattle.pitch_table.specs.Row.{numbers}
+use Rattle.pitch_table.specs.Row.{row-size, numbers}
 use Rattle.sheet_bytes.specs.Bytes.{number-at, signed-at}
 use Rattle.sheet_rows.specs.declared.RowRead.{RowRead}
 use Rattle.sheet_rows.specs.declared.RowRead.the-variants.{Held, Bad}
@@ -27,7 +27,7 @@ use Rattle.sheet_rows.specs.Rows.{row-of}
 use Rattle.sheet_rows.specs.RowsLaws.{stands, stands-verdict}
 use Rattle.sheet_sections.specs.Sheet.{sheet-length}
 use Rattle.lists.specs.PutLaws.{sets-append}
-use Rattle.sheet_page.specs.Page.{settings-in, frames-in, verdict-in, voiced-before, voiced-in, pairs-from, pair-place, correlations-from, correlation-place, row-in, readable, head-good, sizes-good, rows-good, well-formed, held, numbers-of}
+use Rattle.sheet_page.specs.Page.{sheet-settings, frames-in, verdict-in, voiced-before, voiced-in, pairs-from, pair-place, correlations-from, correlation-place, row-in, readable, head-good, sizes-good, rows-good, well-formed, held, numbers-of}
 
 module _ (p : List ℕ) where
   -- ---- the tests
@@ -35,26 +35,26 @@ module _ (p : List ℕ) where
   pub record GoodHead : Type 0 where
     pub long : 28 ≤ length p
     pub five : number-at 4 p 0 ≡ 5
-    pub settings : settings-no (settings-in p) ≡ 0
+    pub settings : settings-no (sheet-settings p) ≡ 0
     pub few : frames-in p ≤ 4096
 
   pub head-means : head-good p ≡ true → GoodHead
   unfolding head-good
   head-means h =
-      let c = eqb (settings-no (settings-in p)) 0 && leb (frames-in p) 4096 in
+      let c = eqb (settings-no (sheet-settings p)) 0 && leb (frames-in p) 4096 in
       let b = eqb (number-at 4 p 0) 5 && c in
       let k = and-right (leb 28 (length p)) b h in
       let l = and-right (eqb (number-at 4 p 0) 5) c k in
       record {
         long = leb-true 28 (length p) (and-left (leb 28 (length p)) b h);
         five = eqb-true (number-at 4 p 0) 5 (and-left (eqb (number-at 4 p 0) 5) c k);
-        settings = eqb-true (settings-no (settings-in p)) 0 (and-left (eqb (settings-no (settings-in p)) 0) (leb (frames-in p) 4096) l);
-        few = leb-true (frames-in p) 4096 (and-right (eqb (settings-no (settings-in p)) 0) (leb (frames-in p) 4096) l);
+        settings = eqb-true (settings-no (sheet-settings p)) 0 (and-left (eqb (settings-no (sheet-settings p)) 0) (leb (frames-in p) 4096) l);
+        few = leb-true (frames-in p) 4096 (and-right (eqb (settings-no (sheet-settings p)) 0) (leb (frames-in p) 4096) l);
       }
 
   pub head-yes : GoodHead → head-good p ≡ true
   unfolding head-good
-  head-yes g = rw (le-leb 28 (length p) (g .long), eq-eqb (number-at 4 p 0) 5 (g .five), eq-eqb (settings-no (settings-in p)) 0 (g .settings)) (le-leb (frames-in p) 4096 (g .few))
+  head-yes g = rw (le-leb 28 (length p) (g .long), eq-eqb (number-at 4 p 0) 5 (g .five), eq-eqb (settings-no (sheet-settings p)) 0 (g .settings)) (le-leb (frames-in p) 4096 (g .few))
 
   pub record GoodSizes : Type 0 where
     pub whole : length p ≡ sheet-length (frames-in p) (voiced-in p)
@@ -152,19 +152,19 @@ module _ (p : List ℕ) where
   -- ---- rows
 
   pub row-voiced : (i : ℕ) → verdict-in p i ≡ 0
-      → row-in p i ≡ row-of (settings-in p) (pos 0) (pos (number-at 2 p (pair-place p i))) (pos (getD p (pair-place p i + 2) 0)) (signed-at p (correlation-place p i))
+      → row-in p i ≡ row-of (sheet-settings p) (pos 0) (pos (number-at 2 p (pair-place p i))) (pos (getD p (pair-place p i + 2) 0)) (signed-at p (correlation-place p i))
   unfolding row-in
   row-voiced i e = rw (eq-eqb (verdict-in p i) 0 e)
 
-  pub row-quiet : (i : ℕ) → (verdict-in p i ≡ 0 → ⊥) → row-in p i ≡ row-of (settings-in p) (pos (verdict-in p i)) (pos 0) (pos 0) (pos 0)
+  pub row-quiet : (i : ℕ) → (verdict-in p i ≡ 0 → ⊥) → row-in p i ≡ row-of (sheet-settings p) (pos (verdict-in p i)) (pos 0) (pos 0) (pos 0)
   unfolding row-in
   row-quiet i g = rw (ne-eqb (verdict-in p i) 0 g)
 
   pub row-verdict : (i : ℕ) (r : Row) → row-in p i ≡ Held r → r .verdict ≡ pos (verdict-in p i)
   row-verdict i r h = by (eqb (verdict-in p i) 0) refl
     where
-      from : (v index contour correlation : ℤ) → row-of (settings-in p) v index contour correlation ≡ Held r → r .verdict ≡ v
-      from v index contour correlation q = stands-verdict (settings-in p) v index contour correlation r (stands (settings-in p) v index contour correlation r q)
+      from : (v index contour correlation : ℤ) → row-of (sheet-settings p) v index contour correlation ≡ Held r → r .verdict ≡ v
+      from v index contour correlation q = stands-verdict (sheet-settings p) v index contour correlation r (stands (sheet-settings p) v index contour correlation r q)
 
       by : (t : Bool) → eqb (verdict-in p i) 0 ≡ t → r .verdict ≡ pos (verdict-in p i)
       by true e =
@@ -226,7 +226,7 @@ module _ (p : List ℕ) where
 
   -- the first i rows
   abbrev pub first-rows : ℕ → List Row
-  first-rows i = table (λ k. held (row-in p k)) i
+  first-rows i = tabulate (λ k. held (row-in p k)) i
 
 -- ---- the numbers of rows
 
@@ -235,23 +235,23 @@ unfolding numbers-of
 numbers-append [] ys = refl
 numbers-append (r ∷ xs) ys = ap (λ (l : List ℤ). numbers r ++ l) (numbers-append xs ys) ∙ sym (append-assoc (numbers r) (numbers-of xs) (numbers-of ys))
 
-pub numbers-length : (rs : List Row) → length (numbers-of rs) ≡ length rs * 8
+pub numbers-length : (rs : List Row) → length (numbers-of rs) ≡ length rs * row-size
 unfolding numbers-of
 numbers-length [] = refl
 numbers-length (r ∷ rs) = length-append (numbers r) (numbers-of rs) ∙ omega (arith, numbers-length rs)
 
 module _ (p : List ℕ) (t : List ℤ) where
   pub put-none : t ≡ sets t 0 (numbers-of (first-rows p 0))
-  unfolding table numbers-of
+  unfolding tabulate numbers-of
   put-none = refl
 
-  pub put-next : (i : ℕ) {l : List ℤ} {r : Row} → l ≡ sets t 0 (numbers-of (first-rows p i)) → row-in p i ≡ Held r → sets l (i * 8) (numbers r) ≡ sets t 0 (numbers-of (first-rows p (i + 1)))
-  unfolding table numbers-of held
+  pub put-next : (i : ℕ) {l : List ℤ} {r : Row} → l ≡ sets t 0 (numbers-of (first-rows p i)) → row-in p i ≡ Held r → sets l (i * row-size) (numbers r) ≡ sets t 0 (numbers-of (first-rows p (i + 1)))
+  unfolding tabulate numbers-of held
   put-next i {l} {r} e h =
       let q : r ≡ held (row-in p i) = sym (ap held h) in
-      let n : i * 8 ≡ 0 + length (numbers-of (first-rows p i)) = omega (arith, numbers-length (first-rows p i), length-table (λ k. held (row-in p k)) i) in
+      let n : i * row-size ≡ 0 + length (numbers-of (first-rows p i)) = omega (arith, numbers-length (first-rows p i), length-tabulate (λ k. held (row-in p k)) i) in
       let m : numbers-of (first-rows p i) ++ numbers r ≡ numbers-of (first-rows p (i + 1)) =
       ap (λ (x : Row). numbers-of (first-rows p i) ++ numbers x) q
       ∙ sym (numbers-append (first-rows p i) (held (row-in p i) ∷ []))
       ∙ ap (λ (j : ℕ). numbers-of (first-rows p j)) (sym (add-one i)) in
-      ap (λ (s : List ℤ). sets s (i * 8) (numbers r)) e ∙ sets-append t (numbers-of (first-rows p i)) (numbers r) 0 (i * 8) n ∙ ap (sets t 0) m
+      ap (λ (s : List ℤ). sets s (i * row-size) (numbers r)) e ∙ sets-append t (numbers-of (first-rows p i)) (numbers r) 0 (i * row-size) n ∙ ap (sets t 0) m

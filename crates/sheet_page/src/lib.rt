@@ -4,7 +4,8 @@ ghost use mathlib.Core.Path.{_≡_};
 ghost use Prim.Native.Nat.{_+_, _*_, _<_, _≤_};
 ghost use lib.ListN.{length};
 ghost use lib.Seq.{sets};
-ghost use Rattle.sheet_page.specs.Page.{settings-in, frames-in, voiced-before, head-in, row-in, head-good, sizes-good, rows-good, well-formed, page-no, rows-in, numbers-of};
+ghost use Rattle.sheet_page.specs.Page.{sheet-settings, frames-in, voiced-before, head-in, row-in, head-good, sizes-good, rows-good, well-formed, page-no, rows-in, numbers-of};
+ghost use Rattle.pitch_table.specs.Row.{row-size};
 use pitch_settings::Settings;
 use pitch_settings::settings_no;
 use pitch_table::put_row;
@@ -23,7 +24,7 @@ pub struct Head {
 
 fn settings_at(page: &[u8]) -> Settings
     requires { ⌜ 28 ≤ length (now page) ⌝ }
-    ensures { λ r. ⌜ r ≡ settings-in (now (page .entry)) ⌝ }
+    ensures { λ r. ⌜ r ≡ sheet-settings (now (page .entry)) ⌝ }
 {
     Settings {
         rate: u32_at(page, 4) as usize,
@@ -151,7 +152,7 @@ pub fn page_no(page: &[u8]) -> usize
 
 // The rows of a sheet, written whole.
 pub fn put_rows(page: &[u8], h: Head, table: &mut [i32])
-    requires { ⌜ (well-formed (now page) ≡ true) × (h ≡ head-in (now page)) × (frames-in (now page) * 8 ≤ length (now table)) ⌝ }
+    requires { ⌜ (well-formed (now page) ≡ true) × (h ≡ head-in (now page)) × (frames-in (now page) * row-size ≤ length (now table)) ⌝ }
     ensures { λ _. ⌜ now (table .exit) ≡ sets (now (table .entry)) 0 (numbers-of (rows-in (now (page .entry)))) ⌝ }
 {
     let mut seen = 0;

@@ -1,5 +1,4 @@
 -- Laws of the rows that a sheet can hold: the definitions by their tests, and what is known of such a row.
---
 use mathlib.Core.Path.{_≡_, refl, sym, ap, _∙_}
 use mathlib.Core.Bool.{Bool, true, false, _&&_, _||_, cond, false≢true}
 use mathlib.Core.Logic.{_⊎_, inl, inr}
@@ -8,9 +7,9 @@ use native.Mathlib.Omega.{arith}
 use borrow.Author.Tests.{lt-ltb, le-ltb}
 use lib.IntN.{ℤ, pos, natAbs}
 use Rattle.answers.specs.Answer.{answer-numbers}
-use Rattle.zint.specs.Bound.{abs-ud}
-use Rattle.zint.specs.Diff.{of-le, of-lt, nonneg-dn, zarith}
-use Rattle.zint.specs.Shift.{nonneg-abs}
+use Rattle.zint.specs.BoundLaws.{abs-ud}
+use Rattle.zint.specs.DiffLaws.{of-le, of-lt, nonneg-dn, zarith}
+use Rattle.zint.specs.ShiftLaws.{nonneg-abs}
 use Rattle.zint.specs.Equal.{eqZ}
 use Rattle.zint.specs.EqualLaws.{eqZ-yes, eqZ-no, eqZ-true}
 use Rattle.silk_tables.specs.Rebuild.{rebuilt, carried}
@@ -20,7 +19,7 @@ use Rattle.silk_tables.specs.TableLaws.{settings-of}
 use Rattle.silk_tables.specs.CarriedLaws.{Accepted, accepted-of, carried-means}
 use Rattle.pitch_settings.specs.declared.Settings.{Settings}
 use Rattle.pitch_settings.specs.Settings.{settings-no}
-use Rattle.pitch_settings.specs.SettingsLaws.{accepted}
+use Rattle.pitch_settings.specs.SettingsLaws.{accepted-settings}
 use Rattle.pitch_table.specs.declared.Row.{Row}
 use Rattle.pitch_table.specs.Row.{numbers}
 use Rattle.sheet_rows.specs.declared.RowRead.{RowRead}
@@ -29,7 +28,7 @@ use Rattle.sheet_rows.specs.Rows.{lag-place, voiced-row, quiet-row, row-
 
 -- accepted settings, as the contour tables have them
 pub tables-accept : (s : Settings) → settings-no s ≡ 0 → Accepted (s .rate) (s .nb) (s .complexity)
-tables-accept s h = let a = accepted s h in accepted-of (a .rate) (settings-of (a .subframes) (omega arith))
+tables-accept s h = let a = accepted-settings s h in accepted-of (a .rate) (settings-of (a .subframes) (omega arith))
 
 -- ---- the definitions by their tests
 

@@ -1,5 +1,4 @@
 -- A row's part of a section by the section and the verdict, and the page after it was written.
---
 use mathlib.Core.Path.{_≡_, refl, sym, ap, _∙_}
 use mathlib.Core.Bool.{true, false}
 use mathlib.Core.List.{List, [], _∷_}

@@ -5,7 +5,7 @@ use Prim.Native.Nat.{ℕ, _+_, _*_}
 use lib.IntN.{ℤ, pos, natAbs}
 use lib.ListN.{length}
 use Rattle.zint.specs.Equal.{eqZ}
-use Rattle.lists.specs.Fill.{table}
+use Rattle.lists.specs.Fill.{tabulate}
 use Rattle.pitch_settings.specs.declared.Settings.{Settings}
 use Rattle.pitch_table.specs.declared.Row.{Row}
 use Rattle.pitch_table.specs.Row.{row-at}
@@ -52,7 +52,7 @@ sheet-length n v = 4 + 20 + (4 + n) + (4 + 3 * v) + (4 + 4 * v)
 
 -- the first n rows of a table
 unfoldable pub rows-of : List ℤ → ℕ → List Row
-rows-of t n = table (row-at t) n
+rows-of t n = tabulate (row-at t) n
 
 -- a row's part of a section: its entry, or nothing
 unfoldable pub part : Section → Row → List ℕ

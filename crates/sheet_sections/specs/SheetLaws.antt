@@ -1,5 +1,4 @@
 -- Laws of a sheet's bytes: sections grow row by row, lengths, and writing one run of bytes after another.
---
 use mathlib.Core.Path.{_≡_, refl, sym, ap, _∙_}
 use mathlib.Core.Bool.{Bool, true, false, cond}
 use mathlib.Core.List.{List, [], _∷_, _++_, append-assoc, append-nil}
@@ -11,7 +10,8 @@ use lib.IntN.{ℤ, pos, natAbs}
 use lib.ListN.{length, length-append}
 use lib.Seq.{sets}
 use Rattle.zint.specs.Equal.{eqZ}
-use Rattle.lists.specs.Fill.{table, length-table}
+use Rattle.lists.specs.Fill.{tabulate}
+use Rattle.lists.specs.FillLaws.{length-tabulate}
 use Rattle.lists.specs.Put.{Put}
 use Rattle.pitch_settings.specs.declared.Settings.{Settings}
 use Rattle.pitch_table.specs.declared.Row.{Row}
@@ -54,8 +54,8 @@ parts-one k r = by (listed k r)
     by false = refl
 
 pub rows-next : (t : List ℤ) (n : ℕ) → rows-of t (n + 1) ≡ rows-of t n ++ (row-at t n ∷ [])
-unfolding rows-of table
-rows-next t n = ap (table (row-at t)) (add-one n)
+unfolding rows-of tabulate
+rows-next t n = ap (tabulate (row-at t)) (add-one n)
 
 pub parts-next : (k : Section) (t : List ℤ) (n : ℕ) → parts k (rows-of t (n + 1)) ≡ parts k (rows-of t n) ++ part k (row-at t n)
 parts-next k t n = ap (parts k) (rows-next t n) ∙ parts-append k (rows-of t n) (row-at t n ∷ []) ∙ ap (λ (l : List ℕ). parts k (rows-of t n) ++ l) (parts-one k (row-at t n))
@@ -63,7 +63,7 @@ parts-next k t n = ap (parts k) (rows-next t n) ∙ parts-append k (rows-of t n)
 -- as many rows as asked, and a section of more rows is as long or longer
 pub length-rows : (t : List ℤ) (n : ℕ) → length (rows-of t n) ≡ n
 unfolding rows-of
-length-rows t n = length-table (row-at t) n
+length-rows t n = length-tabulate (row-at t) n
 
 longer : (k : Section) (t : List ℤ) (i d : ℕ) → length (parts k (rows-of t i)) ≤ length (parts k (rows-of t (i + d)))
 longer k t i zero = rw (add-zero i) (omega arith)

@@ -4,7 +4,7 @@ ghost use mathlib.Core.Path.{_≡_};
 ghost use Prim.Native.Nat.{ℕ, _+_, _*_, _<_, _≤_};
 ghost use lib.ListN.{length};
 ghost use Rattle.pitch_settings.specs.Settings.{settings-no};
-ghost use Rattle.pitch_table.specs.Row.{row-at};
+ghost use Rattle.pitch_table.specs.Row.{row-size, row-at};
 ghost use Rattle.sheet_rows.specs.Rows.{row-holds};
 ghost use Rattle.sheet_rows.specs.RowsLaws.{Small};
 ghost use Rattle.lists.specs.Put.{Put};
@@ -25,7 +25,7 @@ pub enum Section {
 
 // How many of the first rows are voiced.
 pub fn voiced_rows(table: &[i32], frames: usize) -> usize
-    requires { ⌜ frames * 8 ≤ length (now table) ⌝ }
+    requires { ⌜ frames * row-size ≤ length (now table) ⌝ }
     ensures { λ r. ⌜ r ≡ length (entries Section.Pairs (rows-of (now (table .entry)) frames)) ⌝ }
 {
     let mut voiced = 0;
@@ -97,7 +97,7 @@ fn put_section(
     table: &[i32],
     frames: usize,
 ) -> usize
-    requires { ⌜ (frames * 8 ≤ length (now table)) × (frames ≤ 4096)
+    requires { ⌜ (frames * row-size ≤ length (now table)) × (frames ≤ 4096)
         × ((i : ℕ) → i < frames → Small (row-at (now table) i))
         × (count ≡ length (entries which (rows-of (now table) frames)))
         × (at + length (section (entries which (rows-of (now table) frames))) ≤ length (now page)) ⌝ }
@@ -114,7 +114,7 @@ fn put_section(
 
 // A whole sheet at the front of the page.
 pub fn put_sheet(page: &mut [u8], s: Settings, table: &[i32], frames: usize, voiced: usize) -> usize
-    requires { ⌜ (settings-no s ≡ 0) × (frames * 8 ≤ length (now table)) × (frames ≤ 4096)
+    requires { ⌜ (settings-no s ≡ 0) × (frames * row-size ≤ length (now table)) × (frames ≤ 4096)
         × ((i : ℕ) → i < frames → row-holds s (row-at (now table) i) ≡ true)
         × (voiced ≡ length (entries Section.Pairs (rows-of (now table) frames)))
         × (length (sheet s (rows-of (now table) frames)) ≤ length (now page)) ⌝ }

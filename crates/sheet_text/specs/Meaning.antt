@@ -10,10 +10,10 @@ use Rattle.sheet_bytes.specs.Bytes.{Bytes}
 use Rattle.sheet_sections.specs.Sheet.{sheet}
 use Rattle.pitch_sheet.specs.Holds.{no-row, Holds}
 use Rattle.pitch_sheet.specs.RoundTrip.{IsSheet}
-use Rattle.sheet_text.specs.Program.{report, sheet-text}
+use Rattle.sheet_text.specs.Program.{sheet-report, sheet-text}
 
 pub record Meaning : Type 0 where
   -- the sheet of settings and rows: these settings and these rows
-  pub of-sheet : (s : Settings) (rs : List Row) → Holds s rs → sheet-text (sheet s rs) ≡ report s (λ i. getD rs i no-row) (length rs)
+  pub of-sheet : (s : Settings) (rs : List Row) → Holds s rs → sheet-text (sheet s rs) ≡ sheet-report s (λ i. getD rs i no-row) (length rs)
   -- any other bytes: 9
   pub of-other : (p : List ℕ) → Bytes p → (IsSheet p → ⊥) → sheet-text p ≡ refused-text 9

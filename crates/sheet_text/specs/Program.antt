@@ -5,44 +5,45 @@ use mathlib.Core.List.{List, [], _∷_, _++_}
 use Prim.Native.Nat.{ℕ, _*_}
 use lib.IntN.{ℤ, pos}
 use lib.ListN.{length, drop}
-use Rattle.lists.specs.Push.{headed}
+use Rattle.lists.specs.Fill.{overwritten}
 use Rattle.pitch_settings.specs.declared.Settings.{Settings}
 use Rattle.pitch_table.specs.declared.Row.{Row}
 use Rattle.pitch_text.specs.Decimal.{digits}
 use Rattle.pitch_text.specs.Text.{fields, lines-text, refused-text}
-use Rattle.sheet_page.specs.Page.{settings-in, frames-in, row-in, held, well-formed, rows-in, numbers-of}
+use Rattle.sheet_page.specs.Page.{sheet-settings, frames-in, row-in, held, well-formed, rows-in, numbers-of}
+use Rattle.pitch_table.specs.Row.{row-size}
 
 -- the numbers of the first line after the rate
 unfoldable pub head-values : Settings → ℕ → List ℤ
 head-values s frames = pos (s .nb) ∷ pos (s .complexity) ∷ s .thres1 ∷ s .thres2 ∷ pos frames ∷ []
 
 -- the first line: the rate, then each other number after a space
-unfoldable pub head-text : Settings → ℕ → List ℕ
-head-text s frames = digits (s .rate) ++ (fields (head-values s frames) ++ (10 ∷ []))
+unfoldable pub sheet-head : Settings → ℕ → List ℕ
+sheet-head s frames = digits (s .rate) ++ (fields (head-values s frames) ++ (10 ∷ []))
 
 -- the first line, then a line for each frame
-unfoldable pub report : Settings → (ℕ → Row) → ℕ → List ℕ
-report s rows frames = head-text s frames ++ lines-text (s .nb) rows frames
+unfoldable pub sheet-report : Settings → (ℕ → Row) → ℕ → List ℕ
+sheet-report s rows frames = sheet-head s frames ++ lines-text (s .nb) rows frames
 
 -- what the program prints for the input p: the settings and rows of a sheet; 9 for everything that is no sheet
 unfoldable pub sheet-text : List ℕ → List ℕ
-sheet-text p = cond (well-formed p) (report (settings-in p) (λ i. held (row-in p i)) (frames-in p)) (refused-text 9)
+sheet-text p = cond (well-formed p) (sheet-report (sheet-settings p) (λ i. held (row-in p i)) (frames-in p)) (refused-text 9)
 
 -- ---- the whole outcome of a call
 
 -- how many bytes were written, and the lent lists at the end
-pub record Printed : Type 0 where
+pub record SheetPrinted : Type 0 where
   pub len : ℕ
   pub out : List ℕ
   pub table : List ℤ
 
-abbrev pub printed : ℕ → List ℕ → List ℤ → Printed
-printed len out table = record { len = len; out = out; table = table }
+abbrev pub sheet-printed : ℕ → List ℕ → List ℤ → SheetPrinted
+sheet-printed len out table = record { len = len; out = out; table = table }
 
 -- the lent table after the input p: the sheet's rows, and then what the table had; an input that is no sheet leaves it
-unfoldable pub table-after : List ℕ → List ℤ → List ℤ
-table-after p table = cond (well-formed p) (numbers-of (rows-in p) ++ drop (frames-in p * 8) table) table
+unfoldable pub sheet-table-after : List ℕ → List ℤ → List ℤ
+sheet-table-after p table = cond (well-formed p) (numbers-of (rows-in p) ++ drop (frames-in p * row-size) table) table
 
 -- what `sheet_text` leaves of `out` and `table` for the input p: the text over the front of `out`
-unfoldable pub printedOf : List ℕ → List ℕ → List ℤ → Printed
-printedOf p out table = printed (length (sheet-text p)) (headed (sheet-text p) out) (table-after p table)
+unfoldable pub sheet-text-call : List ℕ → List ℕ → List ℤ → SheetPrinted
+sheet-text-call p out table = sheet-printed (length (sheet-text p)) (overwritten (sheet-text p) out) (sheet-table-after p table)

@@ -1,5 +1,4 @@
 -- Laws of the program's text: a page that is longer than the longest sheet is none, what a reading finds is what the text tells, and the whole outcome.
---
 use mathlib.Core.Path.{_≡_, refl, ap, _∙_}
 use mathlib.Core.Bool.{Bool, true, false}
 use mathlib.Core.List.{List, [], _∷_, _++_, append-nil}
@@ -10,23 +9,23 @@ use lib.Dec.{ltb}
 use lib.IntN.{ℤ, pos}
 use lib.ListN.{length, getD, drop, length-append}
 use lib.Seq.{getD-append-add}
-use Rattle.lists.specs.Fill.{length-table, getD-table}
-use Rattle.lists.specs.Push.{headed}
+use Rattle.lists.specs.FillLaws.{length-tabulate, getD-tabulate}
+use Rattle.lists.specs.Fill.{overwritten}
 use Rattle.pitch_settings.specs.declared.Settings.{Settings}
 use Rattle.pitch_settings.specs.Settings.{settings-no}
 use Rattle.pitch_table.specs.declared.Row.{Row}
-use Rattle.pitch_table.specs.Row.{numbers, row-at}
+use Rattle.pitch_table.specs.Row.{row-size, numbers, row-at}
 use Rattle.pitch_text.specs.Text.{refused-text}
 use Rattle.pitch_text.specs.TextLaws.{lines-same}
 use Rattle.sheet_sections.specs.Sheet.{sheet-length}
-use Rattle.sheet_page.specs.Page.{settings-in, frames-in, row-in, held, well-formed, page-no, rows-in, numbers-of}
+use Rattle.sheet_page.specs.Page.{sheet-settings, frames-in, row-in, held, well-formed, page-no, rows-in, numbers-of}
 use Rattle.sheet_page.specs.PageLaws.{good, voiced-in-le}
 use Rattle.pitch_sheet.specs.declared.Got.{Got}
 use Rattle.pitch_sheet.specs.declared.Got.the-variants.{Read, Refused as NotRead}
-use Rattle.pitch_sheet.specs.Calls.{got, readOf, ReadOutcome}
+use Rattle.pitch_sheet.specs.Calls.{got, read-call, ReadOutcome}
 use Rattle.pitch_sheet.specs.CallsLaws.{sheet-page, read-malformed, read-done}
 use Rattle.pitch_sheet.specs.Holds.{no-row}
-use Rattle.sheet_text.specs.Program.{head-text, report, sheet-text, printed, table-after, printedOf}
+use Rattle.sheet_text.specs.Program.{sheet-head, sheet-report, sheet-text, sheet-printed, sheet-table-after, sheet-text-call}
 
 -- ---- a page that is longer than the longest sheet
 pub sheet-within : (p : List ℕ) → well-formed p ≡ true → length p ≤ 32804
@@ -49,13 +48,13 @@ pub no-sheet : (p rest : List ℕ) → 32804 ≤ length p → ltb 0 (length rest
 no-sheet p rest h e = too-long (p ++ rest) (omega (arith, length-append p rest, ltb-true 0 (length rest) e))
 
 -- ---- the whole outcome: the text over the front of `out`, and the table
-pub table-kept : (p : List ℕ) (t : List ℤ) → well-formed p ≡ false → t ≡ table-after p t
-unfolding table-after
+pub table-kept : (p : List ℕ) (t : List ℤ) → well-formed p ≡ false → t ≡ sheet-table-after p t
+unfolding sheet-table-after
 table-kept p t e = rw e
 
-pub outcome : (p out : List ℕ) (t : List ℤ) {len : ℕ} {after : List ℕ} {u : List ℤ} → len ≡ length (sheet-text p) → after ≡ headed (sheet-text p) out → u ≡ table-after p t → printed len after u ≡ printedOf p out t
-unfolding printedOf
-outcome p out t count over left = λ i. printed (count i) (over i) (left i)
+pub outcome : (p out : List ℕ) (t : List ℤ) {len : ℕ} {after : List ℕ} {u : List ℤ} → len ≡ length (sheet-text p) → after ≡ overwritten (sheet-text p) out → u ≡ sheet-table-after p t → sheet-printed len after u ≡ sheet-text-call p out t
+unfolding sheet-text-call
+outcome p out t count over left = λ i. sheet-printed (count i) (over i) (left i)
 
 -- none follow
 pub none-more : (p rest : List ℕ) → ltb 0 (length rest) ≡ false → p ++ rest ≡ p
@@ -72,14 +71,14 @@ unfolding row-at
 row-later r t i =
     let at : (j k : ℕ) → j ≡ 8 + k → getD (numbers r ++ t) j (pos 0) ≡ getD t k (pos 0) =
     λ j k e. ap (λ (m : ℕ). getD (numbers r ++ t) m (pos 0)) e ∙ getD-append-add (numbers r) t k (pos 0) in
-    let x0 = at (suc i * 8) (i * 8) (omega arith) in
-    let x1 = at (suc i * 8 + 1) (i * 8 + 1) (omega arith) in
-    let x2 = at (suc i * 8 + 2) (i * 8 + 2) (omega arith) in
-    let x3 = at (suc i * 8 + 3) (i * 8 + 3) (omega arith) in
-    let x4 = at (suc i * 8 + 4) (i * 8 + 4) (omega arith) in
-    let x5 = at (suc i * 8 + 5) (i * 8 + 5) (omega arith) in
-    let x6 = at (suc i * 8 + 6) (i * 8 + 6) (omega arith) in
-    let x7 = at (suc i * 8 + 7) (i * 8 + 7) (omega arith) in
+    let x0 = at (suc i * row-size) (i * row-size) (omega arith) in
+    let x1 = at (suc i * row-size + 1) (i * row-size + 1) (omega arith) in
+    let x2 = at (suc i * row-size + 2) (i * row-size + 2) (omega arith) in
+    let x3 = at (suc i * row-size + 3) (i * row-size + 3) (omega arith) in
+    let x4 = at (suc i * row-size + 4) (i * row-size + 4) (omega arith) in
+    let x5 = at (suc i * row-size + 5) (i * row-size + 5) (omega arith) in
+    let x6 = at (suc i * row-size + 6) (i * row-size + 6) (omega arith) in
+    let x7 = at (suc i * row-size + 7) (i * row-size + 7) (omega arith) in
     λ u. record { verdict = x0 u; index = x1 u; contour = x2 u; correlation = x3 u; lag0 = x4 u; lag1 = x5 u; lag2 = x6 u; lag3 = x7 u }
 
 row-back : (rs : List Row) (t : List ℤ) (i : ℕ) → i < length rs → row-at (numbers-of rs ++ t) i ≡ getD rs i no-row
@@ -93,40 +92,40 @@ row-back (r ∷ rs) t (suc i) h = row-later r _ i ∙ row-back rs t i (omega ari
 -- the page is a sheet, and these are its settings, its frame count and its rows, in a table that was t before
 pub record Found (p : List ℕ) (t : List ℤ) (s : Settings) (frames : ℕ) (after : List ℤ) : Type 0 where
   pub sound : well-formed p ≡ true
-  pub settings : s ≡ settings-in p
+  pub settings : s ≡ sheet-settings p
   pub count : frames ≡ frames-in p
   pub rows : (i : ℕ) → i < frames → row-at after i ≡ held (row-in p i)
-  pub left : after ≡ table-after p t
+  pub left : after ≡ sheet-table-after p t
 
 -- the page is no sheet, and the number says so; the table is as it was
 pub record Refused (p : List ℕ) (t : List ℤ) (number : ℕ) (after : List ℤ) : Type 0 where
   pub bad : well-formed p ≡ false
   pub nine : number ≡ 9
-  pub left : after ≡ table-after p t
+  pub left : after ≡ sheet-table-after p t
 
 module _ (p : List ℕ) (t : List ℤ) (room : 32768 ≤ length t) where
   -- 7 is never said
-  sound-read : well-formed p ≡ true → readOf p t ≡ got (Read (settings-in p) (frames-in p)) (numbers-of (rows-in p) ++ drop (frames-in p * 8) t)
+  sound-read : well-formed p ≡ true → read-call p t ≡ got (Read (sheet-settings p) (frames-in p)) (numbers-of (rows-in p) ++ drop (frames-in p * row-size) t)
   sound-read e = read-done p t (sheet-page p e) (omega (arith, good p e .head .few))
 
-  bad-read : well-formed p ≡ false → readOf p t ≡ got (NotRead 9) t
+  bad-read : well-formed p ≡ false → read-call p t ≡ got (NotRead 9) t
   unfolding page-no
   bad-read e =
       let n : page-no p ≡ 9 = rw e in
       let m : page-no p ≡ 0 → ⊥ = λ z. omega arith in
       read-malformed p t m ∙ ap (λ (k : ℕ). got (NotRead k) t) n
 
-  row-read : (i : ℕ) → i < frames-in p → row-at (numbers-of (rows-in p) ++ drop (frames-in p * 8) t) i ≡ held (row-in p i)
+  row-read : (i : ℕ) → i < frames-in p → row-at (numbers-of (rows-in p) ++ drop (frames-in p * row-size) t) i ≡ held (row-in p i)
   unfolding rows-in
   row-read i h =
       let f : ℕ → Row = λ k. held (row-in p k) in
-      row-back (rows-in p) (drop (frames-in p * 8) t) i (omega (arith, length-table f (frames-in p))) ∙ getD-table f (frames-in p) i no-row h
+      row-back (rows-in p) (drop (frames-in p * row-size) t) i (omega (arith, length-tabulate f (frames-in p))) ∙ getD-tabulate f (frames-in p) i no-row h
 
-  table-read : well-formed p ≡ true → numbers-of (rows-in p) ++ drop (frames-in p * 8) t ≡ table-after p t
-  unfolding table-after
+  table-read : well-formed p ≡ true → numbers-of (rows-in p) ++ drop (frames-in p * row-size) t ≡ sheet-table-after p t
+  unfolding sheet-table-after
   table-read e = rw e
 
-  module _ {r : Got} {after : List ℤ} (e : got r after ≡ readOf p t) where
+  module _ {r : Got} {after : List ℤ} (e : got r after ≡ read-call p t) where
     pub found : {s : Settings} {frames : ℕ} → r ≡ Read s frames → Found p t s frames after
     found {s} {frames} g = by (well-formed p) refl
       where
@@ -162,9 +161,9 @@ module _ {p : List ℕ} {t : List ℤ} {s : Settings} {frames : ℕ} {after : Li
   pub few-frames : frames ≤ 4096
   few-frames = omega (arith, f .count, good p (f .sound) .head .few)
 
-  pub text-report : report s (row-at after) frames ≡ sheet-text p
-  unfolding sheet-text report
+  pub text-report : sheet-report s (row-at after) frames ≡ sheet-text p
+  unfolding sheet-text sheet-report
   text-report =
       rw (f .sound)
-      (ap (λ (l : List ℕ). head-text s frames ++ l) (lines-same (s .nb) (row-at after) (λ i. held (row-in p i)) frames (f .rows))
-      ∙ (λ u. report (f .settings u) (λ i. held (row-in p i)) (f .count u)))
+      (ap (λ (l : List ℕ). sheet-head s frames ++ l) (lines-same (s .nb) (row-at after) (λ i. held (row-in p i)) frames (f .rows))
+      ∙ (λ u. sheet-report (f .settings u) (λ i. held (row-in p i)) (f .count u)))

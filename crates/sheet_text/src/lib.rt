@@ -6,9 +6,9 @@ ghost use Prim.Native.Nat.{ℕ, _*_, _≤_};
 ghost use lib.Dec.{ltb};
 ghost use lib.ListN.{length};
 ghost use Rattle.pitch_settings.specs.Settings.{settings-no};
-ghost use Rattle.pitch_table.specs.Row.{row-at};
+ghost use Rattle.pitch_table.specs.Row.{row-size, row-at};
 ghost use Rattle.pitch_text.specs.Text.{Put};
-ghost use Rattle.sheet_text.specs.Program.{head-values, head-text, report, printed, printedOf};
+ghost use Rattle.sheet_text.specs.Program.{head-values, sheet-head, sheet-report, sheet-printed, sheet-text-call};
 use pitch_settings::Settings;
 use pitch_sheet::Got;
 use pitch_sheet::read_sheet;
@@ -36,7 +36,7 @@ fn head_values(s: Settings, frames: usize) -> [i32; 5]
 // Settings and frame count.
 fn put_head(out: &mut [u8], s: Settings, frames: usize) -> usize
     requires { ⌜ (settings-no s ≡ 0) × (frames ≤ 4096) × (71 ≤ length (now out)) ⌝ }
-    ensures { λ r. ⌜ Put (now (out .entry)) 0 (head-text s frames) r (now (out .exit)) × (r ≤ 71) ⌝ }
+    ensures { λ r. ⌜ Put (now (out .entry)) 0 (sheet-head s frames) r (now (out .exit)) × (r ≤ 71) ⌝ }
 {
     let values = head_values(s, frames);
     let p = put_digits(out, 0, s.rate as u32);
@@ -47,8 +47,8 @@ fn put_head(out: &mut [u8], s: Settings, frames: usize) -> usize
 
 // The text for the first rows of the table.
 fn put_report(out: &mut [u8], s: Settings, table: &[i32], frames: usize) -> usize
-    requires { ⌜ (settings-no s ≡ 0) × (frames ≤ 4096) × (frames * 8 ≤ length (now table)) × (397383 ≤ length (now out)) ⌝ }
-    ensures { λ r. ⌜ Put (now (out .entry)) 0 (report s (row-at (now (table .entry))) frames) r (now (out .exit)) × (r ≤ 397383) ⌝ }
+    requires { ⌜ (settings-no s ≡ 0) × (frames ≤ 4096) × (frames * row-size ≤ length (now table)) × (397383 ≤ length (now out)) ⌝ }
+    ensures { λ r. ⌜ Put (now (out .entry)) 0 (sheet-report s (row-at (now (table .entry))) frames) r (now (out .exit)) × (r ≤ 397383) ⌝ }
 {
     let p = put_head(out, s, frames);
     put_lines(out, p, s.nb, table, frames)
@@ -58,7 +58,7 @@ fn put_report(out: &mut [u8], s: Settings, table: &[i32], frames: usize) -> usiz
 // sheet has. The sheet's rows are left in the first rows of `table`, by a refusal nothing; all else stays.
 pub fn sheet_text(input: &[u8], more: bool, table: &mut [i32], out: &mut [u8]) -> usize
     requires { ⌜ (more ≡ true → 32804 ≤ length (now input)) × (32768 ≤ length (now table)) × (397383 ≤ length (now out)) ⌝ }
-    ensures { λ r. ⌜ ((rest : List ℕ) → ltb 0 (length rest) ≡ more → printed r (now (out .exit)) (now (table .exit)) ≡ printedOf (now (input .entry) ++ rest) (now (out .entry)) (now (table .entry))) ⌝ }
+    ensures { λ r. ⌜ ((rest : List ℕ) → ltb 0 (length rest) ≡ more → sheet-printed r (now (out .exit)) (now (table .exit)) ≡ sheet-text-call (now (input .entry) ++ rest) (now (out .entry)) (now (table .entry))) ⌝ }
     ensures { λ r. ⌜ r ≤ 397383 ⌝ }
 {
     if more {

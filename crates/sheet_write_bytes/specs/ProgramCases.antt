@@ -1,18 +1,17 @@
 -- Cases of the definition, by computation: a half input, refused settings, and the sheet of an input with no frame.
---
 use mathlib.Core.Path.{_≡_, refl}
 use mathlib.Core.List.{[], _∷_, map}
 use lib.ListN.{replicate}
 use Rattle.zint.specs.Wrap.{modZ, wrap}
-use Rattle.lists.specs.Fill.{table}
+use Rattle.lists.specs.Fill.{tabulate}
 use Rattle.pitch_settings.specs.Settings.{rate-known, subframes-known, settings-no, frame-length, hop-length}
-use Rattle.pitch_input.specs.Input.{settings-in, samples-from}
+use Rattle.pitch_input.specs.Input.{input-settings, samples-from}
 use Rattle.pitch_text.specs.Decimal.{digits-to, digits}
 use Rattle.pitch_text.specs.Text.{refused-text}
-use Rattle.pitch_track.specs.Paper.{framesIn}
+use Rattle.pitch_track.specs.Paper.{frame-count}
 use Rattle.sheet_bytes.specs.Bytes.{low-bytes, number, number-at, word, signed, signed-at}
 use Rattle.sheet_sections.specs.Sheet.{entries, setting-entries, joined, section, sheet}
-use Rattle.track_text.specs.Program.{samples-in, half-input, first-no, program-no}
+use Rattle.track_text.specs.Program.{samples-in, half-input, first-program-refusal, program-no}
 use Rattle.track_sheet.specs.Accepted.{paper-rows, paper-sheet}
 use Rattle.sheet_write_bytes.specs.Program.{sheet-written}
 
@@ -23,5 +22,5 @@ pub written-cases :
     ∷ (114 ∷ 101 ∷ 102 ∷ 117 ∷ 115 ∷ 101 ∷ 100 ∷ 32 ∷ 49 ∷ 10 ∷ [])
     ∷ (5 ∷ 0 ∷ 0 ∷ 0 ∷ 8 ∷ 0 ∷ 0 ∷ 0 ∷ 2 ∷ 0 ∷ 0 ∷ 0 ∷ 1 ∷ replicate 23 0)
     ∷ []
-unfolding sheet-written paper-sheet paper-rows sheet section setting-entries entries joined low-bytes number number-at word signed signed-at modZ wrap refused-text digits digits-to program-no first-no half-input settings-in samples-in samples-from settings-no rate-known subframes-known framesIn frame-length hop-length table
+unfolding sheet-written paper-sheet paper-rows sheet section setting-entries entries joined low-bytes number number-at word signed signed-at modZ wrap refused-text digits digits-to program-no first-program-refusal half-input input-settings samples-in samples-from settings-no rate-known subframes-known frame-count frame-length hop-length tabulate
 written-cases = refl

@@ -1,5 +1,4 @@
 -- Laws of the written bytes: a refusal, a sheet, what a started, fed and written track leaves, and that a track of at most 1,024 frames is written on 8,228 bytes.
---
 use mathlib.Core.Path.{_≡_, refl, ap, _∙_}
 use mathlib.Core.Bool.{Bool, true, false, cond}
 use mathlib.Core.List.{List, [], _∷_, _++_}
@@ -10,26 +9,27 @@ use borrow.Author.Tests.{eq-eqb, ne-eqb, le-ltb}
 use lib.Dec.{ltb}
 use lib.IntN.{ℤ}
 use lib.ListN.{length, drop}
-use Rattle.lists.specs.Fill.{length-table}
-use Rattle.lists.specs.Push.{headed}
-use Rattle.pitch_input.specs.Input.{settings-in}
+use Rattle.lists.specs.FillLaws.{length-tabulate}
+use Rattle.lists.specs.Fill.{overwritten}
+use Rattle.pitch_input.specs.Input.{input-settings}
 use Rattle.pitch_settings.specs.declared.Settings.{Settings}
 use Rattle.pitch_settings.specs.Settings.{settings-no}
 use Rattle.pitch_text.specs.Text.{refused-text}
-use Rattle.pitch_track.specs.Paper.{F, paperNo, joinedBy, joined, nothing, rowAt, tableOf}
-use Rattle.pitch_track.specs.Step.{startOf, deliverOf, Outcome}
-use Rattle.track_run.specs.Chain.{Left, chainOf, finalJ}
+use Rattle.pitch_track.specs.Paper.{F, paper-no, joined-by, joined-samples, no-previous, paper-row, paper-table}
+use Rattle.pitch_track.specs.Step.{start-call, deliver-call, DeliveryOutcome}
+use Rattle.track_run.specs.Chain.{Left, chain, final-samples}
 use Rattle.track_run.proofs.OnPaper.{equation}
 use Rattle.sheet_sections.specs.declared.Section.the-variants.{Pairs}
 use Rattle.sheet_sections.specs.Sheet.{sheet-length}
 use Rattle.sheet_sections.specs.SheetLaws.{length-sheet, entries-le}
 use Rattle.pitch_sheet.specs.declared.Wrote.{Wrote}
 use Rattle.pitch_sheet.specs.declared.Wrote.the-variants.{Written, Refused}
-use Rattle.pitch_sheet.specs.Calls.{WriteOutcome, wrote, writeOf}
+use Rattle.pitch_sheet.specs.Calls.{WriteOutcome, wrote, write-call}
 use Rattle.track_sheet.specs.Accepted.{paper-rows, paper-sheet}
 use Rattle.track_sheet.specs.AcceptedLaws.{accepted-by-write}
 use Rattle.track_text.specs.Program.{samples-in, program-no}
 use Rattle.sheet_write_bytes.specs.Program.{sheet-written}
+use Rattle.pitch_table.specs.Row.{row-size}
 
 -- ---- the bytes
 
@@ -37,29 +37,29 @@ pub written-refused : (b : List ℕ) (n : ℕ) → n ≡ program-no b → (n ≡
 unfolding sheet-written
 written-refused b n e h = rw (← e, ne-eqb n 0 h)
 
-pub written-sheet : (b : List ℕ) → program-no b ≡ 0 → paper-sheet (settings-in b) (samples-in b) ≡ sheet-written b
+pub written-sheet : (b : List ℕ) → program-no b ≡ 0 → paper-sheet (input-settings b) (samples-in b) ≡ sheet-written b
 unfolding sheet-written
 written-sheet b e = rw (eq-eqb (program-no b) 0 e)
 
 -- ---- start, deliver, write: a recording that the track on paper accepts, and a page that has room for its sheet
 
-module _ (s : Settings) (t x : List ℤ) (page : List ℕ) (h : settings-no s ≡ 0) (taken : paperNo s (length t / 8) [] x ≡ 0) (room : length (paper-sheet s x) ≤ length page) (d : Outcome)
-    (e : d ≡ deliverOf (startOf s .track) t x) where
-  whole : finalJ s t (x ∷ []) ≡ x
-  unfolding joined joinedBy
-  whole = rw (eq-eqb (paperNo s (length t / 8) [] x) 0 taken)
+module _ (s : Settings) (t x : List ℤ) (page : List ℕ) (h : settings-no s ≡ 0) (taken : paper-no s (length t / row-size) [] x ≡ 0) (room : length (paper-sheet s x) ≤ length page) (d : DeliveryOutcome)
+    (e : d ≡ deliver-call (start-call s .track) t x) where
+  whole : final-samples s t (x ∷ []) ≡ x
+  unfolding joined-samples joined-by
+  whole = rw (eq-eqb (paper-no s (length t / row-size) [] x) 0 taken)
 
   -- the rows are in the table
-  pub rows-left : d .table ≡ tableOf s t x
-  unfolding chainOf
-  rows-left = ap (λ (v : Outcome). v .table) e ∙ ap (λ (l : Left). l .table) (equation s h t (x ∷ [])) ∙ ap (tableOf s t) whole
+  pub rows-left : d .table ≡ paper-table s t x
+  unfolding chain
+  rows-left = ap (λ (v : DeliveryOutcome). v .table) e ∙ ap (λ (l : Left). l .table) (equation s h t (x ∷ [])) ∙ ap (paper-table s t) whole
 
-  module _ (r : Wrote) (p : List ℕ) (w : wrote r p ≡ writeOf s (d .delivered .track .frames) (d .table) page) where
-    put : wrote r p ≡ wrote (Written (length (paper-sheet s x))) (headed (paper-sheet s x) page)
-    unfolding chainOf headed
+  module _ (r : Wrote) (p : List ℕ) (w : wrote r p ≡ write-call s (d .delivered .track .frames) (d .table) page) where
+    put : wrote r p ≡ wrote (Written (length (paper-sheet s x))) (overwritten (paper-sheet s x) page)
+    unfolding chain overwritten
     put =
         w
-        ∙ ap (λ (v : Outcome). writeOf s (v .delivered .track .frames) (v .table) page) e
+        ∙ ap (λ (v : DeliveryOutcome). write-call s (v .delivered .track .frames) (v .table) page) e
         ∙ accepted-by-write s h t (x ∷ []) .written page (rw whole room)
         ∙ ap (λ (j : List ℤ). wrote (Written (length (paper-sheet s j))) (paper-sheet s j ++ drop (length (paper-sheet s j)) page)) whole
 
@@ -69,7 +69,7 @@ module _ (s : Settings) (t x : List ℤ) (page : List ℕ) (h : settings-no s �
         let z : _≡_ {A = ℕ} 0 1 = cc in
         omega arith
 
-    pub sheet-put : (n : ℕ) → r ≡ Written n → (n ≡ length (paper-sheet s x)) × (p ≡ headed (paper-sheet s x) page)
+    pub sheet-put : (n : ℕ) → r ≡ Written n → (n ≡ length (paper-sheet s x)) × (p ≡ overwritten (paper-sheet s x) page)
     sheet-put n q = let a = ap (λ (o : WriteOutcome). o .answer) put in (cc, ap (λ (o : WriteOutcome). o .page) put)
 
 -- ---- a track of at most 1,024 frames
@@ -82,12 +82,12 @@ module _ (s : Settings) (x : List ℤ) (few : F s (length x) ≤ 1024) where
   -- its sheet has at most 8,228 bytes
   pub small-sheet : length (paper-sheet s x) ≤ 8228
   unfolding paper-sheet paper-rows sheet-length
-  small-sheet = omega (arith, length-sheet s (paper-rows s x), entries-le Pairs (paper-rows s x), length-table (rowAt s x nothing) (F s (length x)))
+  small-sheet = omega (arith, length-sheet s (paper-rows s x), entries-le Pairs (paper-rows s x), length-tabulate (paper-row s x no-previous) (F s (length x)))
 
   -- the paper accepts it, with a table of 1,024 rows
-  pub few-taken : (t : List ℤ) → 8192 ≤ length t → paperNo s (length t / 8) [] x ≡ 0
-  unfolding paperNo
+  pub few-taken : (t : List ℤ) → 8192 ≤ length t → paper-no s (length t / row-size) [] x ≡ 0
+  unfolding paper-no
   few-taken t rows =
       let a : F s (length x) ≤ 4096 = omega arith in
-      let b : F s (length x) ≤ length t / 8 = omega arith in
-      rw (zero-add (length x), le-ltb 4096 (F s (length x)) a, le-ltb (length t / 8) (F s (length x)) b) (same (ltb (F s 0) (F s (length x))))
+      let b : F s (length x) ≤ length t / row-size = omega arith in
+      rw (zero-add (length x), le-ltb 4096 (F s (length x)) a, le-ltb (length t / row-size) (F s (length x)) b) (same (ltb (F s 0) (F s (length x))))

@@ -3,12 +3,13 @@ ghost use mathlib.Core.Path.{_≡_};
 ghost use mathlib.Core.List.{List, [], _++_};
 ghost use Prim.Native.Nat.{ℕ, _/_, _<_, _≤_};
 ghost use lib.ListN.{length};
-ghost use Rattle.lists.specs.Push.{headed};
+ghost use Rattle.lists.specs.Fill.{overwritten};
 ghost use Rattle.pitch_settings.specs.Settings.{settings-no};
-ghost use Rattle.pitch_track.specs.Paper.{paperNo, tableOf};
-ghost use Rattle.track_text.specs.Program.{printed};
+ghost use Rattle.pitch_track.specs.Paper.{paper-no, paper-table};
+ghost use Rattle.track_text.specs.Program.{track-printed};
 ghost use Rattle.track_sheet.specs.Accepted.{paper-sheet};
-ghost use Rattle.sheet_write_bytes.specs.Program.{writtenOf};
+ghost use Rattle.sheet_write_bytes.specs.Program.{sheet-bytes-call};
+ghost use Rattle.pitch_table.specs.Row.{row-size};
 use pitch_input::load_samples;
 use pitch_input::settings_in;
 use pitch_settings::Settings;
@@ -20,8 +21,8 @@ use track_text::program_no;
 
 // The sheet of the samples x, in the first bytes of `out`, and its rows in the table; how many bytes it has. A track is started, fed and written: the writing takes what the delivery took.
 fn put_track(s: Settings, x: &[i16], table: &mut [i32], out: &mut [u8]) -> usize
-    requires { ⌜ (settings-no s ≡ 0) × (paperNo s (length (now table) / 8) [] (now x) ≡ 0) × (length (paper-sheet s (now x)) ≤ length (now out)) ⌝ }
-    ensures { λ r. ⌜ (r ≡ length (paper-sheet s (now (x .entry)))) × (now (out .exit) ≡ headed (paper-sheet s (now (x .entry))) (now (out .entry))) × (now (table .exit) ≡ tableOf s (now (table .entry)) (now (x .entry))) ⌝ }
+    requires { ⌜ (settings-no s ≡ 0) × (paper-no s (length (now table) / row-size) [] (now x) ≡ 0) × (length (paper-sheet s (now x)) ≤ length (now out)) ⌝ }
+    ensures { λ r. ⌜ (r ≡ length (paper-sheet s (now (x .entry)))) × (now (out .exit) ≡ overwritten (paper-sheet s (now (x .entry))) (now (out .entry))) × (now (table .exit) ≡ paper-table s (now (table .entry)) (now (x .entry))) ⌝ }
 {
     let started = Track::start(s);
     let track = started.track;
@@ -45,7 +46,7 @@ pub fn sheet_write_bytes(
     out: &mut [u8],
 ) -> usize
     requires { ⌜ (0 < more → 656651 ≤ length (now input)) × (328320 ≤ length (now samples)) × (8192 ≤ length (now table)) × (8228 ≤ length (now out)) ⌝ }
-    ensures { λ r. ⌜ ((rest : List ℕ) → length rest ≡ more → printed r (now (out .exit)) (now (samples .exit)) (now (table .exit)) ≡ writtenOf (now (input .entry) ++ rest) (now (out .entry)) (now (samples .entry)) (now (table .entry))) ⌝ }
+    ensures { λ r. ⌜ ((rest : List ℕ) → length rest ≡ more → track-printed r (now (out .exit)) (now (samples .exit)) (now (table .exit)) ≡ sheet-bytes-call (now (input .entry) ++ rest) (now (out .entry)) (now (samples .entry)) (now (table .entry))) ⌝ }
     ensures { λ r. ⌜ r ≤ 8228 ⌝ }
 {
     let no = program_no(input, more);

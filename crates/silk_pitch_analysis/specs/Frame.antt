@@ -12,17 +12,17 @@ use Rattle.pitch_settings.specs.declared.Settings.{Settings}
 use Rattle.pitch_settings.specs.Settings.{settings-no, frame-length}
 use Rattle.pitch_table.specs.declared.Row.{Row}
 use Rattle.pitch_table.specs.Row.{numbers}
-use Rattle.silk_signals.specs.Scale.{scaled}
-use Rattle.silk_signals.specs.Signals.{eight, four}
-use Rattle.silk_stage1.specs.Stage1.{stage1, kept}
-use Rattle.silk_stage1.specs.declared.Screen.{Screen}
-use Rattle.silk_stage1.specs.declared.Screen.the-variants.{ZeroDivisor as Zero1, Unvoiced as Unvoiced1, Goes}
-use Rattle.silk_stage2.specs.Stage2.{stage2}
-use Rattle.silk_stage2.specs.declared.Stage2.{Stage2}
-use Rattle.silk_stage2.specs.declared.Stage2.the-variants.{ZeroDivisor as Zero2, Unvoiced as Unvoiced2, Winner}
-use Rattle.silk_stage3.specs.Stage3.{stage3}
-use Rattle.silk_stage3.specs.declared.Found.{Found}
-use Rattle.silk_stage3.specs.declared.Found.the-variants.{Pair, ZeroDivisor as Zero3}
+use Rattle.frame_signals.specs.Scale.{scaled}
+use Rattle.frame_signals.specs.Signals.{down-to-8khz, down-to-4khz}
+use Rattle.stage1.specs.Stage1.{stage1, kept}
+use Rattle.stage1.specs.declared.Screen.{Screen}
+use Rattle.stage1.specs.declared.Screen.the-variants.{ZeroDivisor as Zero1, Unvoiced as Unvoiced1, Goes}
+use Rattle.stage2.specs.Stage2.{stage2}
+use Rattle.stage2.specs.declared.Stage2.{Stage2}
+use Rattle.stage2.specs.declared.Stage2.the-variants.{ZeroDivisor as Zero2, Unvoiced as Unvoiced2, Winner}
+use Rattle.stage3.specs.Stage3.{stage3}
+use Rattle.stage3.specs.declared.Found.{Found}
+use Rattle.stage3.specs.declared.Found.the-variants.{Pair, ZeroDivisor as Zero3}
 use Rattle.silk_tables.specs.Rebuild.{rebuilt}
 use Rattle.silk_pitch_analysis.specs.declared.Verdict.{Verdict}
 use Rattle.silk_pitch_analysis.specs.declared.Verdict.the-variants.{Voiced, Unvoiced, ZeroDivisor}
@@ -34,10 +34,10 @@ use Rattle.silk_pitch_analysis.specs.declared.RowAnswer.the-variants.{An
 -- ---- the signals: the working frame w, its 8 kHz form e and its 4 kHz form f
 
 abbrev pub signal8 : Settings → List ℤ → List ℤ
-signal8 s w = eight (s .rate) w
+signal8 s w = down-to-8khz (s .rate) w
 
 abbrev pub signal4 : Settings → List ℤ → List ℤ
-signal4 s w = four (signal8 s w)
+signal4 s w = down-to-4khz (signal8 s w)
 
 -- ---- the last stage
 
@@ -125,8 +125,8 @@ row-from s v =
       lag3 = row-lag s v 3;
     }
 
-unfoldable pub row-of : Settings → List ℤ → ℤ → ℤ → Row
-row-of s x prev corr = row-from s (verdict-of s x prev corr)
+unfoldable pub frame-row : Settings → List ℤ → ℤ → ℤ → Row
+frame-row s x prev corr = row-from s (verdict-of s x prev corr)
 
 -- ---- the frame call: refusals 1 to 5 in order, by n samples and m lag places; 0 where there is none
 
@@ -134,28 +134,28 @@ unfoldable pub frame-no : Settings → ℕ → ℕ → ℕ
 frame-no s n m = cond (eqb (settings-no s) 0) (cond (ltb n (frame-length s)) 4 (cond (ltb m (s .nb)) 5 0)) (settings-no s)
 
 -- the answer, and the lag places at exit
-pub record Outcome : Type 0 where
+pub record FrameOutcome : Type 0 where
   pub answer : Answer
   pub lags : List ℤ
 
-abbrev pub outcome : Answer → List ℤ → Outcome
-outcome a l = record { answer = a; lags = l }
+abbrev pub frame-outcome : Answer → List ℤ → FrameOutcome
+frame-outcome a l = record { answer = a; lags = l }
 
 -- the nb lag places are written, and the others kept
-unfoldable pub analysed : Settings → Verdict → List ℤ → Outcome
-analysed s v l = outcome (Analysed v) (filled (lag-of s v) (s .nb) l)
+unfoldable pub analysed : Settings → Verdict → List ℤ → FrameOutcome
+analysed s v l = frame-outcome (Analysed v) (filled (lag-of s v) (s .nb) l)
 
 -- a refusal changes no lag place; else the first N samples decide
-unfoldable pub frameOf : Settings → List ℤ → List ℤ → ℤ → ℤ → Outcome
-frameOf s x l prev corr =
+unfoldable pub frame-call : Settings → List ℤ → List ℤ → ℤ → ℤ → FrameOutcome
+frame-call s x l prev corr =
     cond (eqb (frame-no s (length x) (length l)) 0) (analysed s (verdict-of s (take (frame-length s) x) prev corr) l)
-    (outcome (Refused (frame-no s (length x) (length l))) l)
+    (frame-outcome (Refused (frame-no s (length x) (length l))) l)
 
 -- ---- the row call: the same refusals, and the row of the first N samples. A row has four lag places, enough for every nb, so there is no refusal 5
 
 unfoldable pub row-answer : Settings → List ℤ → ℤ → ℤ → RowAnswer
 row-answer s x prev corr =
-    cond (eqb (frame-no s (length x) 4) 0) (RowAnalysed (row-of s (take (frame-length s) x) prev corr)) (RowRefused (frame-no s (length x) 4))
+    cond (eqb (frame-no s (length x) 4) 0) (RowAnalysed (frame-row s (take (frame-length s) x) prev corr)) (RowRefused (frame-no s (length x) 4))
 
 -- ---- the answers in document 01's numbers
 
@@ -166,9 +166,9 @@ verdict-numbers Unvoiced = pos 1 ∷ pos 0 ∷ pos 0 ∷ pos 0 ∷ []
 verdict-numbers ZeroDivisor = pos 2 ∷ pos 0 ∷ pos 0 ∷ pos 0 ∷ []
 
 -- a refusal is its number; 0 and the verdict's numbers where there is none
-abbrev pub answer-in-numbers : Answer → List ℤ
-answer-in-numbers (Refused k) = pos k ∷ []
-answer-in-numbers (Analysed v) = pos 0 ∷ verdict-numbers v
+abbrev pub frame-answer-numbers : Answer → List ℤ
+frame-answer-numbers (Refused k) = pos k ∷ []
+frame-answer-numbers (Analysed v) = pos 0 ∷ verdict-numbers v
 
 -- and 0 and the row's eight numbers
 abbrev pub row-answer-in-numbers : RowAnswer → List ℤ
@@ -177,8 +177,8 @@ row-answer-in-numbers (RowAnalysed row) = pos 0 ∷ numbers row
 
 -- what the frame call says of the samples x with m lag places: the refusal, or the first four numbers of the row
 unfoldable pub frame-in-numbers : Settings → List ℤ → ℕ → ℤ → ℤ → List ℤ
-frame-in-numbers s x m prev corr = answer-numbers (frame-no s (length x) m) (take 4 (numbers (row-of s (take (frame-length s) x) prev corr)))
+frame-in-numbers s x m prev corr = answer-numbers (frame-no s (length x) m) (take 4 (numbers (frame-row s (take (frame-length s) x) prev corr)))
 
 -- what the row call says: the refusal, or the row
 unfoldable pub row-in-numbers : Settings → List ℤ → ℤ → ℤ → List ℤ
-row-in-numbers s x prev corr = answer-numbers (frame-no s (length x) 4) (numbers (row-of s (take (frame-length s) x) prev corr))
+row-in-numbers s x prev corr = answer-numbers (frame-no s (length x) 4) (numbers (frame-row s (take (frame-length s) x) prev corr))

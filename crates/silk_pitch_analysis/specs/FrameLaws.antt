@@ -1,5 +1,4 @@
 -- Laws of a frame: its verdict's pair is one that the index code carries, what the stages are handed, and the answers in numbers.
---
 use mathlib.Core.Path.{_≡_, refl, sym, ap, _∙_, subst}
 use mathlib.Core.Bool.{Bool, true, false, cond}
 use mathlib.Core.List.{List, [], _∷_}
@@ -12,10 +11,10 @@ use lib.IntN.{ℤ, pos, natAbs, _-ℤ_}
 use lib.ListN.{length, take}
 use lib.Seq.{take-all}
 use lib.Signed.{_<ℤ_}
-use Rattle.zint.specs.Diff.{eq-of, sub-ud′, of-lt, zarith}
+use Rattle.zint.specs.DiffLaws.{eq-of, sub-ud′, of-lt, zarith}
 use Rattle.pitch_settings.specs.declared.Settings.{Settings}
 use Rattle.pitch_settings.specs.Settings.{settings-no, frame-length}
-use Rattle.pitch_settings.specs.SettingsLaws.{accepted}
+use Rattle.pitch_settings.specs.SettingsLaws.{accepted-settings}
 use Rattle.pitch_table.specs.declared.Row.{Row}
 use Rattle.pitch_table.specs.Row.{numbers}
 use Rattle.silk_tables.specs.Tables.{contours, contours2, in-use, greatest-index}
@@ -23,19 +22,19 @@ use Rattle.silk_tables.specs.TableLaws.{in-use-bounds}
 use Rattle.silk_tables.specs.ContourLaws.{contours-le-34}
 use Rattle.silk_tables.specs.Rebuild.{Coded}
 use Rattle.silk_tables.specs.CarriedLaws.{Carried as CarriedPair, accepted-of, carried-pair, contour-abs, coded as pair-coded}
-use Rattle.silk_signals.specs.Signals.{eight, four}
-use Rattle.silk_signals.specs.SignalLaws.{length-eight, length-four}
-use Rattle.silk_stage3.specs.Stage3.{stage3, Handed}
-use Rattle.silk_stage3.specs.Meaning.{Meaning}
-use Rattle.silk_stage3.specs.Theorem.{stage3-means}
-use Rattle.silk_stage3.specs.declared.Found.the-variants.{Pair}
+use Rattle.frame_signals.specs.Signals.{down-to-8khz, down-to-4khz}
+use Rattle.frame_signals.specs.SignalLaws.{length-eight, length-four}
+use Rattle.stage3.specs.Stage3.{stage3, Handed}
+use Rattle.stage3.specs.Meaning.{Meaning}
+use Rattle.stage3.specs.MeaningLaws.{stage3-means}
+use Rattle.stage3.specs.declared.Found.the-variants.{Pair}
 use Rattle.silk_pitch_analysis.specs.declared.Verdict.{Verdict}
 use Rattle.silk_pitch_analysis.specs.declared.Verdict.the-variants.{Voiced, Unvoiced, ZeroDivisor}
 use Rattle.silk_pitch_analysis.specs.declared.Answer.{Answer}
 use Rattle.silk_pitch_analysis.specs.declared.Answer.the-variants.{Refused}
 use Rattle.silk_pitch_analysis.specs.declared.RowAnswer.{RowAnswer}
 use Rattle.silk_pitch_analysis.specs.declared.RowAnswer.the-variants.{Analysed as RowAnalysed, Refused as RowRefused}
-use Rattle.silk_pitch_analysis.specs.Frame.{from-pair, verdict-of, row-from, row-of, frame-no, Outcome, outcome, analysed, frameOf, row-answer, verdict-numbers, answer-in-numbers, row-answer-in-numbers, frame-in-numbers, row-in-numbers}
+use Rattle.silk_pitch_analysis.specs.Frame.{from-pair, verdict-of, row-from, frame-row, frame-no, FrameOutcome, frame-outcome, analysed, frame-call, row-answer, verdict-numbers, frame-answer-numbers, row-answer-in-numbers, frame-in-numbers, row-in-numbers}
 
 -- a voiced verdict's pair has an index and a contour of these settings
 pub data Carried (s : Settings) : Verdict → Type 0 where
@@ -59,7 +58,7 @@ module _ (s : Settings) {index contour : ℤ} (p : CarriedPair (s .rate) (s .nb)
 
   pub coded : settings-no s ≡ 0 → (k : ℕ) → k < s .nb → Coded (s .rate) (s .nb) index (natAbs contour) k
   coded h k l =
-      let a = accepted s h in
+      let a = accepted-settings s h in
       pair-coded (accepted-of (a .rate) (record { subframes = a .subframes; at-least = a .nb-low; at-most = a .nb-high; complexity = omega (arith, a .complexity) })) p k l
 
 -- what the last stage is handed: a winner of stage 2, with a contour that stage 2 tries
@@ -74,7 +73,7 @@ module _ (s : Settings) (w : List ℤ) (h : settings-no s ≡ 0) (len : length w
   pub handed : (s .rate ≡ 8 → ⊥) → Handed w (s .rate) (s .nb) (s .complexity) (lag * s .rate / 8)
   unfolding frame-length
   handed g =
-      let a = accepted s h in
+      let a = accepted-settings s h in
       let r : 12 ≤ s .rate = ⊎-elim (λ e. absurd (g e)) (λ k. ⊎-elim (λ e. omega arith) (λ e. omega arith) k) (a .rate) in
       record {
         settings = record { subframes = a .subframes; at-least = a .nb-low; at-most = a .nb-high; complexity = omega (arith, a .complexity) };
@@ -99,17 +98,17 @@ module _ (s : Settings) (w : List ℤ) (h : settings-no s ≡ 0) (len : length w
 -- ---- the signals of a working frame
 
 module _ (s : Settings) (w : List ℤ) (h : settings-no s ≡ 0) (len : length w ≡ frame-length s) where
-  pub eight-length : length (eight (s .rate) w) ≡ (20 + 5 * s .nb) * 8
+  pub eight-length : length (down-to-8khz (s .rate) w) ≡ (20 + 5 * s .nb) * 8
   unfolding frame-length
-  eight-length = length-eight (record { rate = accepted s h .rate; size = len })
+  eight-length = length-eight (record { rate = accepted-settings s h .rate; size = len })
 
-  pub four-length : length (four (eight (s .rate) w)) ≡ (20 + 5 * s .nb) * 4
-  four-length = length-four (eight (s .rate) w) ∙ omega (arith, eight-length)
+  pub four-length : length (down-to-4khz (down-to-8khz (s .rate) w)) ≡ (20 + 5 * s .nb) * 4
+  four-length = length-four (down-to-8khz (s .rate) w) ∙ omega (arith, eight-length)
 
   -- at 12 kHz a frame has at most 480 samples
   pub at-12 : s .rate ≡ 12 → length w ≤ 480
   unfolding frame-length
-  at-12 e = rw (len, e) (omega (arith, accepted s h .nb-high))
+  at-12 e = rw (len, e) (omega (arith, accepted-settings s h .nb-high))
 
 -- ---- a frame that is not refused
 
@@ -130,13 +129,13 @@ taken s n m h = by (eqb (settings-no s) 0) (ltb n (frame-length s)) (ltb m (s .n
     by false u v p q r e = absurd (eqb-false (settings-no s) 0 p e)
 
 -- accepted settings and enough samples: the row is said
-pub row-taken : (s : Settings) (x : List ℤ) (prev corr : ℤ) → settings-no s ≡ 0 → frame-length s ≤ length x → row-answer s x prev corr ≡ RowAnalysed (row-of s (take (frame-length s) x) prev corr)
+pub row-taken : (s : Settings) (x : List ℤ) (prev corr : ℤ) → settings-no s ≡ 0 → frame-length s ≤ length x → row-answer s x prev corr ≡ RowAnalysed (frame-row s (take (frame-length s) x) prev corr)
 unfolding row-answer frame-no
-row-taken s x prev corr h l = rw (eq-eqb _ 0 h, le-ltb (length x) (frame-length s) l, le-ltb 4 (s .nb) (accepted s h .nb-high))
+row-taken s x prev corr h l = rw (eq-eqb _ 0 h, le-ltb (length x) (frame-length s) l, le-ltb 4 (s .nb) (accepted-settings s h .nb-high))
 
-pub row-whole : (s : Settings) (x : List ℤ) (prev corr : ℤ) → settings-no s ≡ 0 → length x ≡ frame-length s → row-answer s x prev corr ≡ RowAnalysed (row-of s x prev corr)
+pub row-whole : (s : Settings) (x : List ℤ) (prev corr : ℤ) → settings-no s ≡ 0 → length x ≡ frame-length s → row-answer s x prev corr ≡ RowAnalysed (frame-row s x prev corr)
 row-whole s x prev corr h l =
-    row-taken s x prev corr h (omega arith) ∙ ap (λ (y : List ℤ). RowAnalysed (row-of s y prev corr)) (take-all (frame-length s) x (omega arith))
+    row-taken s x prev corr h (omega arith) ∙ ap (λ (y : List ℤ). RowAnalysed (frame-row s y prev corr)) (take-all (frame-length s) x (omega arith))
 
 -- an answer has one row, and an answer with a row is no refusal
 pub one-row : (o : RowAnswer) (r q : Row) → o ≡ RowAnalysed r → o ≡ RowAnalysed q → r ≡ q
@@ -155,18 +154,18 @@ verdict-told s Unvoiced = refl
 verdict-told s ZeroDivisor = refl
 
 frame-told : (s : Settings) (v : Verdict) (l : List ℤ) (k : ℕ) (t : Bool) → eqb k 0 ≡ t
-    → answer-in-numbers (cond t (analysed s v l) (outcome (Refused k) l) .answer) ≡ (pos k ∷ cond t (take 4 (numbers (row-from s v))) [])
+    → frame-answer-numbers (cond t (analysed s v l) (frame-outcome (Refused k) l) .answer) ≡ (pos k ∷ cond t (take 4 (numbers (row-from s v))) [])
 unfolding analysed
 frame-told s v l k true e = rw (eqb-true k 0 e) (ap (λ (n : List ℤ). pos 0 ∷ n) (verdict-told s v))
 frame-told s v l k false e = refl
 
 -- so an outcome that is the defined one is told by the defined numbers
-pub answer-told : (s : Settings) (x l : List ℤ) (prev corr : ℤ) (a : Answer) (m : List ℤ) → outcome a m ≡ frameOf s x l prev corr
-    → (outcome a m ≡ frameOf s x l prev corr) × (answer-in-numbers a ≡ frame-in-numbers s x (length l) prev corr)
-unfolding frameOf frame-in-numbers row-of
+pub answer-told : (s : Settings) (x l : List ℤ) (prev corr : ℤ) (a : Answer) (m : List ℤ) → frame-outcome a m ≡ frame-call s x l prev corr
+    → (frame-outcome a m ≡ frame-call s x l prev corr) × (frame-answer-numbers a ≡ frame-in-numbers s x (length l) prev corr)
+unfolding frame-call frame-in-numbers frame-row
 answer-told s x l prev corr a m e = (
   e,
-  ap (λ (o : Outcome). answer-in-numbers (o .answer)) e
+  ap (λ (o : FrameOutcome). frame-answer-numbers (o .answer)) e
       ∙ frame-told s (verdict-of s (take (frame-length s) x) prev corr) l (frame-no s (length x) (length l)) (eqb (frame-no s (length x) (length l)) 0) refl,
 )
 
@@ -178,4 +177,4 @@ pub row-answer-told : (s : Settings) (x : List ℤ) (prev corr : ℤ) (a : RowAn
     → (a ≡ row-answer s x prev corr) × (row-answer-in-numbers a ≡ row-in-numbers s x prev corr)
 unfolding row-answer row-in-numbers
 row-answer-told s x prev corr a e =
-    (e, ap row-answer-in-numbers e ∙ row-told (row-of s (take (frame-length s) x) prev corr) (frame-no s (length x) 4) (eqb (frame-no s (length x) 4) 0) refl)
+    (e, ap row-answer-in-numbers e ∙ row-told (frame-row s (take (frame-length s) x) prev corr) (frame-no s (length x) 4) (eqb (frame-no s (length x) 4) 0) refl)

@@ -1,6 +1,6 @@
 -- What a frame's verdict is, in words (document 01, "Three stages"; the order's third demand): unvoiced exactly where no divisor reached is zero and either stage 1's best is under 3277
 -- or no lag passes stage 2; a zero divisor exactly where a divisor reached is zero; a voiced frame's pair is the last stage's best by comparison or, where stage 3 has no candidate, the
--- scaled winner with contour 0. `VerdictExactly` is the claim, and `Theorem` shows it.
+-- scaled winner with contour 0. `VerdictExactly` is the claim, and `MeaningLaws` shows it.
 use mathlib.Core.Path.{_≡_}
 use mathlib.Core.List.{List}
 use mathlib.Core.Logic.{_⊎_}
@@ -8,11 +8,11 @@ use Prim.Native.Nat.{ℕ, _*_}
 use lib.IntN.{ℤ, pos, _-ℤ_}
 use lib.Signed.{_≤ℤ_, _<ℤ_}
 use Rattle.pitch_settings.specs.declared.Settings.{Settings}
-use Rattle.silk_signals.specs.Scale.{scaled}
-use Rattle.silk_stage1.specs.Stage1.{score1, kept}
-use Rattle.silk_stage1.specs.Meaning.{Lag, ZeroReached as ZeroReached1}
-use Rattle.silk_stage2.specs.Meaning.{ZeroReached as ZeroReached2, Passes, Wins}
-use Rattle.silk_stage3.specs.Meaning.{ZeroReached as ZeroReached3, BestPair, Candidate}
+use Rattle.frame_signals.specs.Scale.{scaled}
+use Rattle.stage1.specs.Stage1.{score1, kept}
+use Rattle.stage1.specs.Meaning.{Lag, ZeroReached as ZeroReached1}
+use Rattle.stage2.specs.Meaning.{ZeroReached as ZeroReached2, Passes, Wins}
+use Rattle.stage3.specs.Meaning.{ZeroReached as ZeroReached3, BestPair, Candidate}
 use Rattle.silk_pitch_analysis.specs.declared.Verdict.{Verdict}
 use Rattle.silk_pitch_analysis.specs.declared.Verdict.the-variants.{Voiced, Unvoiced, ZeroDivisor}
 use Rattle.silk_pitch_analysis.specs.Frame.{signal8, signal4, scaled-lag, verdict-of}

@@ -1,5 +1,4 @@
 -- Every verdict's pair is carried: its index is at most the greatest of its rate, and its contour is one in use.
---
 use mathlib.Core.Path.{_≡_, refl, sym, ap, _∙_, subst}
 use mathlib.Core.Bool.{Bool, true, false, cond}
 use mathlib.Core.List.{List}
@@ -13,21 +12,21 @@ use lib.ListN.{length, take}
 use lib.Seq.{length-take-le}
 use Rattle.pitch_settings.specs.declared.Settings.{Settings}
 use Rattle.pitch_settings.specs.Settings.{settings-no, frame-length}
-use Rattle.pitch_settings.specs.SettingsLaws.{accepted}
+use Rattle.pitch_settings.specs.SettingsLaws.{accepted-settings}
 use Rattle.silk_tables.specs.Tables.{contours, in-use, greatest-index}
 use Rattle.silk_tables.specs.ContourLaws.{contours-8, contours-other}
-use Rattle.silk_signals.specs.Scale.{scaled}
-use Rattle.silk_signals.specs.ScaleLaws.{length-scaled}
-use Rattle.silk_stage1.specs.Stage1.{stage1, kept}
-use Rattle.silk_stage1.specs.declared.Screen.{Screen}
-use Rattle.silk_stage1.specs.declared.Screen.the-variants.{ZeroDivisor as Zero1, Unvoiced as Unvoiced1, Goes}
-use Rattle.silk_stage2.specs.Stage2.{stage2}
-use Rattle.silk_stage2.specs.Theorem.{winner-range}
-use Rattle.silk_stage2.specs.declared.Stage2.{Stage2}
-use Rattle.silk_stage2.specs.declared.Stage2.the-variants.{ZeroDivisor as Zero2, Unvoiced as Unvoiced2, Winner}
-use Rattle.silk_stage3.specs.Stage3.{stage3}
-use Rattle.silk_stage3.specs.declared.Found.{Found}
-use Rattle.silk_stage3.specs.declared.Found.the-variants.{Pair, ZeroDivisor as Zero3}
+use Rattle.frame_signals.specs.Scale.{scaled}
+use Rattle.frame_signals.specs.ScaleLaws.{length-scaled}
+use Rattle.stage1.specs.Stage1.{stage1, kept}
+use Rattle.stage1.specs.declared.Screen.{Screen}
+use Rattle.stage1.specs.declared.Screen.the-variants.{ZeroDivisor as Zero1, Unvoiced as Unvoiced1, Goes}
+use Rattle.stage2.specs.Stage2.{stage2}
+use Rattle.stage2.specs.MeaningLaws.{winner-range}
+use Rattle.stage2.specs.declared.Stage2.{Stage2}
+use Rattle.stage2.specs.declared.Stage2.the-variants.{ZeroDivisor as Zero2, Unvoiced as Unvoiced2, Winner}
+use Rattle.stage3.specs.Stage3.{stage3}
+use Rattle.stage3.specs.declared.Found.{Found}
+use Rattle.stage3.specs.declared.Found.the-variants.{Pair, ZeroDivisor as Zero3}
 use Rattle.silk_pitch_analysis.specs.declared.Verdict.{Verdict}
 use Rattle.silk_pitch_analysis.specs.declared.Verdict.the-variants.{Voiced, Unvoiced, ZeroDivisor}
 use Rattle.silk_pitch_analysis.specs.Frame.{signal8, signal4, scaled-lag, from-pair, last-stage, from-winner, second-stage, from-screen, staged, verdict-of}
@@ -41,7 +40,7 @@ greatest-other fs (inr e) = rw e (omega arith)
 
 module _ (s : Settings) (w : List ℤ) (h : settings-no s ≡ 0) (len : length w ≡ frame-length s) where
   other : (s .rate ≡ 8 → ⊥) → (s .rate ≡ 12) ⊎ (s .rate ≡ 16)
-  other g = ⊎-elim (λ e. absurd (g e)) (λ k. k) (accepted s h .rate)
+  other g = ⊎-elim (λ e. absurd (g e)) (λ k. k) (accepted-settings s h .rate)
 
   module _ (lag contour : ℕ) (corr : ℤ) (won : Won s lag contour) where
     -- stage 2 is the last stage

@@ -4,28 +4,28 @@ ghost use Prim.Native.Nat.{_+_, _*_, _<_, _≤_};
 ghost use lib.ListN.{length, take};
 ghost use Rattle.lists.specs.Fill.{filled};
 ghost use Rattle.pitch_settings.specs.Settings.{settings-no, frame-length};
-ghost use Rattle.silk_pitch_analysis.specs.Frame.{from-pair, last-stage, from-winner, from-screen, staged, verdict-of, lag-of, row-lag, row-from, row-answer, frame-no, outcome, frameOf, answer-in-numbers, row-answer-in-numbers, frame-in-numbers, row-in-numbers};
-ghost use Rattle.silk_stage1.specs.Stage1.{stage1};
-ghost use Rattle.silk_stage2.specs.Stage2.{stage2};
+ghost use Rattle.silk_pitch_analysis.specs.Frame.{from-pair, last-stage, from-winner, from-screen, staged, verdict-of, lag-of, row-lag, row-from, row-answer, frame-no, frame-outcome, frame-call, frame-answer-numbers, row-answer-in-numbers, frame-in-numbers, row-in-numbers};
+ghost use Rattle.stage1.specs.Stage1.{stage1};
+ghost use Rattle.stage2.specs.Stage2.{stage2};
 ghost use Rattle.stage2_correlations.specs.Marks.{Kept};
-ghost use Rattle.silk_stage3.specs.declared.Found.the-variants.{Pair};
+ghost use Rattle.stage3.specs.declared.Found.the-variants.{Pair};
 ghost use Rattle.silk_pitch_analysis.specs.FrameLaws.{Carried, Won};
+use frame_signals::frame_4khz;
+use frame_signals::frame_8khz;
+use frame_signals::frame_shift;
+use frame_signals::scale_into;
+use frame_signals::working_frame;
 use pitch_settings::Settings;
 use pitch_settings::frame_length;
 use pitch_settings::settings_no;
 use pitch_table::Row;
-use silk_signals::frame_4khz;
-use silk_signals::frame_8khz;
-use silk_signals::frame_shift;
-use silk_signals::scale_into;
-use silk_signals::working_frame;
-use silk_stage1::Screen;
-use silk_stage1::silk_stage1;
-use silk_stage2::Stage2;
-use silk_stage2::silk_stage2;
-use silk_stage3::Found;
-use silk_stage3::silk_stage3;
 use silk_tables::rebuild::lag_of;
+use stage1::Screen;
+use stage1::search_stage1;
+use stage2::Stage2;
+use stage2::search_stage2;
+use stage3::Found;
+use stage3::search_stage3;
 
 // A frame's verdict, and a voiced frame's pair and correlation (Q15).
 pub enum Verdict {
@@ -94,7 +94,7 @@ fn last_stage(w: &[i16], s: Settings, lag: usize, contour: usize, correlation: i
     }
     let nb = s.nb;
     let complexity = s.complexity;
-    let found = silk_stage3(w, lag * fs_khz / 8, nb, complexity, fs_khz);
+    let found = search_stage3(w, lag * fs_khz / 8, nb, complexity, fs_khz);
     let Found::Pair { lag: d, contour: j } = found else {
         return Verdict::ZeroDivisor;
     };
@@ -201,7 +201,7 @@ fn second_stage(
     requires { ⌜ (settings-no s ≡ 0) × ((length (now w) ≡ frame-length s) × ((length (now e) ≡ (20 + 5 * s .nb) * 8) × Kept (now kept))) ⌝ }
     ensures { λ r. ⌜ r ≡ from-winner s (now (w .entry)) (stage2 (now (e .entry)) (now (kept .entry)) (s .rate) (s .nb) (s .complexity) (s .thres2) «prev_lag» «prev_corr») ⌝ }
 {
-    let answer = silk_stage2(
+    let answer = search_stage2(
         e,
         kept,
         s.rate,
@@ -227,7 +227,7 @@ fn stages(w: &[i16], e: &[i16], f: &[i16], s: Settings, prev_lag: i32, prev_corr
     requires { ⌜ (settings-no s ≡ 0) × ((length (now w) ≡ frame-length s) × ((length (now e) ≡ (20 + 5 * s .nb) * 8) × (length (now f) ≡ (20 + 5 * s .nb) * 4))) ⌝ }
     ensures { λ r. ⌜ r ≡ from-screen s (now (w .entry)) (now (e .entry)) (now (f .entry)) «prev_lag» «prev_corr» (stage1 (now (f .entry)) (s .nb) (s .complexity) (s .thres1) .screen) ⌝ }
 {
-    let first = silk_stage1(f, s.nb, s.complexity, s.thres1);
+    let first = search_stage1(f, s.nb, s.complexity, s.thres1);
     let screen = first.screen;
     let lags = first.lags;
     let count = first.count;
@@ -289,8 +289,8 @@ pub fn silk_pitch_analysis_core(
     prev_lag: i32,
     prev_corr: i32,
 ) -> Answer
-    ensures { λ r. ⌜ outcome r (now («pitch_out» .exit)) ≡ frameOf s (now (frame .entry)) (now («pitch_out» .entry)) «prev_lag» «prev_corr» ⌝ }
-    ensures { λ r. ⌜ answer-in-numbers r ≡ frame-in-numbers s (now (frame .entry)) (length (now («pitch_out» .entry))) «prev_lag» «prev_corr» ⌝ }
+    ensures { λ r. ⌜ frame-outcome r (now («pitch_out» .exit)) ≡ frame-call s (now (frame .entry)) (now («pitch_out» .entry)) «prev_lag» «prev_corr» ⌝ }
+    ensures { λ r. ⌜ frame-answer-numbers r ≡ frame-in-numbers s (now (frame .entry)) (length (now («pitch_out» .entry))) «prev_lag» «prev_corr» ⌝ }
 {
     let no = frame_no(s, frame.len(), pitch_out.len());
     if no != 0 {

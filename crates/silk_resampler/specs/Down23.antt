@@ -4,14 +4,15 @@ use mathlib.Core.Bool.{cond}
 use mathlib.Core.List.{List, _∷_, _++_}
 use Prim.Native.Nat.{ℕ, zero, suc, _+_, _-_, _*_, _/_, _%_}
 use lib.Dec.{ltb, eqb}
-use lib.IntN.{ℤ, pos, negsuc, _+ℤ_, _*ℤ_}
+use lib.IntN.{ℤ, pos, _+ℤ_, _*ℤ_}
 use lib.ListN.{length, drop, replicate}
 use mir.Syntax.{w16, w32}
 use Rattle.zint.specs.Clamp.{sat}
 use Rattle.zint.specs.Wrap.{wrap}
 use Rattle.silk_macros.specs.Macros.{smulwb, smlawb, rshift-round}
-use Rattle.lists.specs.Fill.{table}
+use Rattle.lists.specs.Fill.{tabulate}
 use Rattle.lists.specs.Signal.{sample}
+use Rattle.zint.specs.Minus.{minus}
 
 -- by what the filter's output is multiplied before a coefficient, how often it is itself added to the first state, and the bits by which outputs 2m and 2m + 1 are rounded
 pub record Filter : Type 0 where
@@ -90,13 +91,13 @@ joined h y k = cond (ltb k 4) (h k) (y (k - 4))
 
 -- the buffer of a batch over the signal x, the six states s lent: four values held, and the recursion's two states
 unfoldable pub buffer : Filter → List ℤ → (ℕ → ℤ) → ℕ → ℤ
-buffer F s x = joined (sample s) (filtered F (negsuc 2796) (negsuc 6506) (states-of (drop 4 s)) x)
+buffer F s x = joined (sample s) (filtered F (minus 2797) (minus 6507) (states-of (drop 4 s)) x)
 
 -- the lent states after n samples: the buffer's last four values, the recursion's states, and the rest of the list
 unfoldable pub down2-3-states : Filter → List ℤ → (ℕ → ℤ) → ℕ → List ℤ
 down2-3-states F s x n =
-    table (λ i. buffer F s x (n + i)) 4 ++ with-states (ar2-states F (negsuc 2796) (negsuc 6506) (states-of (drop 4 s)) x n) (drop 4 s)
+    tabulate (λ i. buffer F s x (n + i)) 4 ++ with-states (ar2-states F (minus 2797) (minus 6507) (states-of (drop 4 s)) x n) (drop 4 s)
 
 -- a whole frame from states of 0, as the pitch analyser takes it from 12 to 8 kHz
 unfoldable pub down2-3 : Filter → List ℤ → List ℤ
-down2-3 F xs = table (decimated F (buffer F (replicate 6 (pos 0)) (sample xs))) (2 * (length xs / 3))
+down2-3 F xs = tabulate (decimated F (buffer F (replicate 6 (pos 0)) (sample xs))) (2 * (length xs / 3))

@@ -1,5 +1,4 @@
 -- Laws of the decimator by two thirds: the source's steps, one turn of each loop, the widths of what they hold, the buffer, lengths, and the frame alone.
---
 use mathlib.Core.Path.{_≡_, refl, sym, ap, ap₂, _∙_}
 use mathlib.Core.Bool.{Bool, true, false, cond}
 use mathlib.Core.List.{List, [], _∷_, _++_}
@@ -15,12 +14,13 @@ use lib.Seq.{length-take-le, getD-take, getD-drop, getD-append-add, drop-at}
 use mir.Syntax.{w16, w32}
 use mir.Val.{SFits}
 use Rattle.zint.specs.ClampLaws.{sat-fits}
-use Rattle.zint.specs.Diff.{v, n, _⊕_, _⊗_, ring}
+use Rattle.zint.specs.DiffLaws.{v, n, _⊕_, _⊗_, ring}
 use Rattle.zint.specs.Wrap.{wrap}
 use Rattle.zint.specs.WrapLaws.{wrap-fits, wrap-id, wrap-add-r}
 use Rattle.silk_macros.specs.Macros.{smulwb, smlawb, rshift-round}
 use Rattle.silk_macros.specs.MacroLaws.{smulwb-fits}
-use Rattle.lists.specs.Fill.{table, filled, filled-all, take-filled, length-table, length-filled, getD-filled, table-ext, filled-ext}
+use Rattle.lists.specs.Fill.{tabulate, filled}
+use Rattle.lists.specs.FillLaws.{filled-all, take-filled, length-tabulate, length-filled, getD-filled, tabulate-ext, filled-ext}
 use Rattle.lists.specs.Signal.{sample}
 use Rattle.silk_resampler.specs.Down23.{Filter, source-filter, States, ar2-out, feedback, first-next, ar2-states, filtered, states-of, with-states, weighted, rounded, even-out, odd-out, decimated, joined, buffer, down2-3}
 use Rattle.silk_resampler.specs.Down2Laws.{table-fits}
@@ -179,18 +179,18 @@ module _ (F : Filter) (s : List ℤ) (x : ℕ → ℤ) (m : ℕ) (b : List ℤ) 
 
   -- its states: four values of b from m on, and the recursion's
   pub batch-states : (j : ℕ) (z : States) → 4 ≤ j → 4 ≤ length s
-      → filled (sample (take j (drop m b))) 4 (take 4 s ++ (with-states z (take 2 (drop 4 s)) ++ drop 2 (drop 4 s))) ≡ table (λ i. buffer F s x (m + i)) 4 ++ with-states z (drop 4 s)
+      → filled (sample (take j (drop m b))) 4 (take 4 s ++ (with-states z (take 2 (drop 4 s)) ++ drop 2 (drop 4 s))) ≡ tabulate (λ i. buffer F s x (m + i)) 4 ++ with-states z (drop 4 s)
   unfolding filled sample
   batch-states j z f g =
       ap₂ (λ (t u : List ℤ). t ++ u)
-      (table-ext 4 (λ i l. getD-take j (drop m b) i (pos 0) (omega arith) ∙ getD-drop m b i (pos 0) ∙ h (m + i) (omega arith)))
+      (tabulate-ext 4 (λ i l. getD-take j (drop m b) i (pos 0) (omega arith) ∙ getD-drop m b i (pos 0) ∙ h (m + i) (omega arith)))
       (drop-at (take 4 s) (with-states z (take 2 (drop 4 s)) ++ drop 2 (drop 4 s)) 4 (length-take-le 4 s g) ∙ with-part z (drop 4 s))
 
 -- ---- a frame
 
 pub down2-3-length : (F : Filter) (xs : List ℤ) → length (down2-3 F xs) ≡ 2 * (length xs / 3)
 unfolding down2-3
-down2-3-length F xs = length-table (decimated F (buffer F (replicate 6 (pos 0)) (sample xs))) (2 * (length xs / 3))
+down2-3-length F xs = length-tabulate (decimated F (buffer F (replicate 6 (pos 0)) (sample xs))) (2 * (length xs / 3))
 
 pub down2-3-fits : (F : Filter) (xs : List ℤ) (k : ℕ) → SFits w16 (sample (down2-3 F xs) k)
 unfolding down2-3
@@ -204,10 +204,10 @@ module _ (F : Filter) (xs out : List ℤ) (m : ℕ) (e : m ≡ length xs) where
   unfolding down2-3
   down2-3-whole l =
       let f = decimated F (buffer F (replicate 6 (pos 0)) (sample xs)) in
-      filled-all f (2 * (m / 3)) out (omega arith) ∙ ap (λ (k : ℕ). table f (2 * (k / 3))) e
+      filled-all f (2 * (m / 3)) out (omega arith) ∙ ap (λ (k : ℕ). tabulate f (2 * (k / 3))) e
 
   pub down2-3-front : take (2 * (m / 3)) (filled (decimated F (buffer F (replicate 6 (pos 0)) (sample xs))) (2 * (m / 3)) out) ≡ down2-3 F xs
   unfolding down2-3
   down2-3-front =
       let f = decimated F (buffer F (replicate 6 (pos 0)) (sample xs)) in
-      take-filled f (2 * (m / 3)) out ∙ ap (λ (k : ℕ). table f (2 * (k / 3))) e
+      take-filled f (2 * (m / 3)) out ∙ ap (λ (k : ℕ). tabulate f (2 * (k / 3))) e

@@ -1,5 +1,4 @@
 -- What accepted settings and a carried pair say, the two tests from such facts, and the answer by its tests.
---
 use mathlib.Core.Path.{_≡_, refl, ap, ap₂, subst}
 use mathlib.Core.List.{[], _∷_}
 use mathlib.Core.Bool.{Bool, true, false, _&&_, _||_, cond}
@@ -11,12 +10,12 @@ use borrow.Author.Tests.{eqb-true, leb-true, le-leb, lt-ltb}
 use lib.IntN.{ℤ, pos, natAbs}
 use lib.Signed.{leZ, ltZ, _≤ℤ_, _<ℤ_}
 use Rattle.answers.specs.Answer.{answer-numbers}
-use Rattle.zint.specs.Tests.{le-true, lt-true}
-use Rattle.zint.specs.Order.{le-yes, lt-yes}
-use Rattle.zint.specs.Shift.{nonneg-abs}
-use Rattle.zint.specs.Diff.{le-of, lt-of, of-lt, zarith}
-use Rattle.silk_tables.specs.Tables.{Settings, contours, greatest-index}
-use Rattle.silk_tables.specs.Rebuild.{rebuilt, Coded, accepted, carried, rebuiltOf, rebuilt-numbers, rebuilt-number}
+use Rattle.zint.specs.TestLaws.{le-true, lt-true}
+use Rattle.zint.specs.OrderLaws.{le-yes, lt-yes}
+use Rattle.zint.specs.ShiftLaws.{nonneg-abs}
+use Rattle.zint.specs.DiffLaws.{le-of, lt-of, of-lt, zarith}
+use Rattle.silk_tables.specs.Tables.{TableSettings, contours, greatest-index}
+use Rattle.silk_tables.specs.Rebuild.{rebuilt, Coded, accepted, carried, rebuild-call, rebuilt-numbers, rebuilt-number}
 use Rattle.zint.specs.BoolLaws.{and-left, and-right, or-cases}
 use Rattle.silk_tables.specs.TableLaws.{settings-of}
 use Rattle.silk_tables.specs.ContourLaws.{greatest-le, contours-le}
@@ -29,7 +28,7 @@ pub record Accepted (fs nb cx : ℕ) : Type 0 where
   pub rate : (fs ≡ 8) ⊎ ((fs ≡ 12) ⊎ (fs ≡ 16))
   pub rate-ge : 8 ≤ fs
   pub rate-le : fs ≤ 16
-  pub settings : Settings nb cx
+  pub settings : TableSettings nb cx
 
 abbrev rate-test : ℕ → Bool
 rate-test fs = eqb fs 8 || eqb fs 12 || eqb fs 16
@@ -64,7 +63,7 @@ between fs r =
     r
 
 module _ {fs nb cx : ℕ} where
-  pub accepted-of : (fs ≡ 8) ⊎ ((fs ≡ 12) ⊎ (fs ≡ 16)) → Settings nb cx → Accepted fs nb cx
+  pub accepted-of : (fs ≡ 8) ⊎ ((fs ≡ 12) ⊎ (fs ≡ 16)) → TableSettings nb cx → Accepted fs nb cx
   accepted-of r s = record { rate = r; rate-ge = between fs r .0; rate-le = between fs r .1; settings = s }
 
   pub accepted-means : accepted fs nb cx ≡ true → Accepted fs nb cx
@@ -144,16 +143,16 @@ module _ (fs nb cx : ℕ) (index contour : ℤ) (k : ℕ) where
   abbrev lag : Rebuilt
   lag = Lag (rebuilt fs nb index (natAbs contour) k)
 
-  pub answer-by : {a b c : Bool} → accepted fs nb cx ≡ a → ltb k nb ≡ b → carried fs nb cx index contour ≡ c → rebuiltOf fs nb cx index contour k ≡ cond (a && b && c) lag NotCarried
-  unfolding rebuiltOf
+  pub answer-by : {a b c : Bool} → accepted fs nb cx ≡ a → ltb k nb ≡ b → carried fs nb cx index contour ≡ c → rebuild-call fs nb cx index contour k ≡ cond (a && b && c) lag NotCarried
+  unfolding rebuild-call
   answer-by p q r = λ i. cond (p i && q i && r i) lag NotCarried
 
-  pub answer-lag : Accepted fs nb cx → k < nb → Carried fs nb cx index contour → rebuiltOf fs nb cx index contour k ≡ lag
+  pub answer-lag : Accepted fs nb cx → k < nb → Carried fs nb cx index contour → rebuild-call fs nb cx index contour k ≡ lag
   answer-lag a h p = answer-by (accepted-yes a) (lt-ltb k nb h) (carried-yes p)
 
   -- the answer in numbers
-  pub rebuilt-in-numbers : rebuilt-numbers (rebuiltOf fs nb cx index contour k) ≡ answer-numbers (rebuilt-number fs nb cx index contour k) (rebuilt fs nb index (natAbs contour) k ∷ [])
-  unfolding rebuiltOf rebuilt-number
+  pub rebuilt-in-numbers : rebuilt-numbers (rebuild-call fs nb cx index contour k) ≡ answer-numbers (rebuilt-number fs nb cx index contour k) (rebuilt fs nb index (natAbs contour) k ∷ [])
+  unfolding rebuild-call rebuilt-number
   rebuilt-in-numbers = by (accepted fs nb cx && ltb k nb && carried fs nb cx index contour)
     where
       by : (t : Bool) → rebuilt-numbers (cond t lag NotCarried) ≡ answer-numbers (cond t 0 9) (rebuilt fs nb index (natAbs contour) k ∷ [])

@@ -1,5 +1,4 @@
 -- Laws of the contours in use, the greatest index and the codebooks: which each rate chooses, and their bounds.
---
 use mathlib.Core.Path.{_≡_, refl, ap}
 use mathlib.Core.Bool.{Bool, true, false, cond}
 use mathlib.Core.List.{[], _∷_}
@@ -10,7 +9,7 @@ use borrow.Author.Tests.{eq-eqb, ne-eqb}
 use lib.IntN.{pos, negsuc}
 use lib.ListN.{getD}
 use lib.Signed.{_≤ℤ_}
-use Rattle.zint.specs.Diff.{le-of, zarith}
+use Rattle.zint.specs.DiffLaws.{le-of, zarith}
 use Rattle.silk_tables.specs.Tables.{cb-lags-stage3, cb-lags-stage3-10-ms, in-use, offset, offset2, entries2, contours2, contours, greatest-index}
 use Rattle.silk_tables.specs.Rebuild.{entries, book}
 use Rattle.silk_tables.specs.EntryLaws.{table-within, all-of, within, entry-ge, entry-le}

@@ -1,6 +1,5 @@
 -- Bounds of a table's entries, by one computed test over the table; past the table's end 0 is read, so the bounds hold at every row and column. And what the code reads
 -- of an entry.
---
 use mathlib.Core.Path.{_≡_, refl}
 use mathlib.Core.Bool.{Bool, true, _&&_}
 use mathlib.Core.List.{List, [], _∷_}
@@ -10,9 +9,9 @@ use lib.ListN.{getD}
 use lib.Signed.{mag, leZ, _≤ℤ_}
 use mir.Syntax.{w8, w32}
 use mir.Val.{SFits, hbits, toZ, ofZ}
-use Rattle.zint.specs.Bound.{widen}
-use Rattle.zint.specs.Read.{r-elem, r-cast, f-cast}
-use Rattle.zint.specs.Tests.{le-true}
+use Rattle.zint.specs.BoundLaws.{widen}
+use Rattle.zint.specs.ReadLaws.{r-elem, r-cast, f-cast}
+use Rattle.zint.specs.TestLaws.{le-true}
 use Rattle.zint.specs.BoolLaws.{and-left, and-right}
 
 unfoldable pub all-of : {A : Type 0} → (A → Bool) → List A → Bool

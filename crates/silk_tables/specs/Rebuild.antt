@@ -9,7 +9,7 @@ use lib.Dec.{eqb, ltb, leb}
 use lib.IntN.{ℤ, pos, natAbs, _+ℤ_}
 use lib.Signed.{leZ, ltZ, _≤ℤ_}
 use Rattle.zint.specs.Clamp.{clamp}
-use Rattle.lists.specs.Fill.{table}
+use Rattle.lists.specs.Fill.{tabulate}
 use Rattle.silk_tables.specs.Tables.{offset, offset2, contours, greatest-index}
 use Rattle.silk_tables.specs.declared.rebuild.Rebuilt.{Rebuilt}
 use Rattle.silk_tables.specs.declared.rebuild.Rebuilt.the-variants.{Lag, NotCarried}
@@ -38,7 +38,7 @@ rebuilt fs nb index contour k = clamp (pos (lag-min fs)) (pos (lag-max fs)) (pri
 
 -- the lags of a frame, one for each subframe
 unfoldable pub lags : ℕ → ℕ → ℤ → ℕ → List ℤ
-lags fs nb index contour = table (rebuilt fs nb index contour) nb
+lags fs nb index contour = tabulate (rebuilt fs nb index contour) nb
 
 -- numbers for which the books have an entry and the sum is small
 pub record Coded (fs nb : ℕ) (index : ℤ) (contour k : ℕ) : Type 0 where
@@ -62,8 +62,8 @@ carried fs nb cx index contour =
     leZ (pos 0) index && leZ index (pos (greatest-index fs)) && leZ (pos 0) contour && ltZ contour (pos (contours fs nb cx))
 
 -- the answer for any numbers: a lag where the settings are accepted, the frame has a subframe k, and the pair is carried
-unfoldable pub rebuiltOf : ℕ → ℕ → ℕ → ℤ → ℤ → ℕ → Rebuilt
-rebuiltOf fs nb cx index contour k =
+unfoldable pub rebuild-call : ℕ → ℕ → ℕ → ℤ → ℤ → ℕ → Rebuilt
+rebuild-call fs nb cx index contour k =
     cond (accepted fs nb cx && ltb k nb && carried fs nb cx index contour) (Lag (rebuilt fs nb index (natAbs contour) k)) NotCarried
 
 -- the answer in document 01's numbers: 0 and the lag, or 9 (malformed) for numbers that are no pair of a frame; and which of the two comes

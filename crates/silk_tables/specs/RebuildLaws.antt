@@ -1,5 +1,4 @@
 -- Laws of the rebuilding: the bounds of a lag, and that the source's own assembly is the rebuilding.
---
 use mathlib.Core.Path.{_≡_, refl, sym, ap}
 use mathlib.Core.Bool.{Bool, true, false}
 use Prim.Native.Nat.{ℕ, _+_, _-_, _*_, _≤_}
@@ -9,8 +8,8 @@ use mir.Syntax.{w32}
 use mir.Val.{SFits, sel}
 use lib.Signed.{ltZ, _≤ℤ_, ≤ℤ-refl}
 use Rattle.zint.specs.Clamp.{clamp}
-use Rattle.zint.specs.Tests.{lt-false}
-use Rattle.zint.specs.Diff.{v, n as num, _⊕_, le-of, sfits-by, sfits-of-ud, zarith}
+use Rattle.zint.specs.TestLaws.{lt-false}
+use Rattle.zint.specs.DiffLaws.{v, n as num, _⊕_, le-of, sfits-by, sfits-of-ud, zarith}
 use Rattle.silk_tables.specs.Tables.{offset, offset2}
 use Rattle.silk_tables.specs.Rebuild.{lag-min, primary, book, rebuilt, Coded}
 use Rattle.silk_tables.specs.ContourLaws.{book-8, book-other, book-bounds}

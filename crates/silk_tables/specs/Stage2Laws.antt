@@ -1,5 +1,4 @@
 -- The bounds of stage 2's offsets, tested once over each table, and the tables and counts that the settings choose.
---
 use mathlib.Core.Path.{_≡_, refl, sym, ap, _∙_}
 use mathlib.Core.Bool.{Bool, true, false, _&&_, cond, and-false}
 use mathlib.Core.List.{[]}
@@ -11,8 +10,8 @@ use mir.Syntax.{w32}
 use mir.Val.{SFits}
 use lib.ListN.{getD}
 use lib.Signed.{_≤ℤ_}
-use Rattle.zint.specs.Shift.{nonneg-abs}
-use Rattle.zint.specs.Diff.{v, n as num, _⊕_, le-by, sfits-by, eq-in, zarith}
+use Rattle.zint.specs.ShiftLaws.{nonneg-abs}
+use Rattle.zint.specs.DiffLaws.{v, n as num, _⊕_, le-by, sfits-by, eq-in, zarith}
 use Rattle.silk_tables.specs.EntryLaws.{table-within, all-of, within, entry-ge, entry-le}
 use Rattle.silk_tables.specs.Tables.{cb-lags-stage2, cb-lags-stage2-10-ms, entries2, contours2, offset2, moved-lag2}
 

@@ -5,7 +5,7 @@ ghost use mathlib.Core.Logic.{_⊎_};
 ghost use Prim.Native.Nat.{_<_, _≤_};
 ghost use lib.IntN.{natAbs};
 ghost use Rattle.answers.specs.Answer.{answer-numbers};
-ghost use Rattle.silk_tables.specs.Rebuild.{lag-min, lag-max, entries, book, rebuilt, Coded, accepted, carried, rebuiltOf, rebuilt-numbers, rebuilt-number};
+ghost use Rattle.silk_tables.specs.Rebuild.{lag-min, lag-max, entries, book, rebuilt, Coded, accepted, carried, rebuild-call, rebuilt-numbers, rebuilt-number};
 use crate::PE_MAX_LAG_MS;
 use crate::PE_MIN_LAG_MS;
 use crate::SILK_PE_MAX_COMPLEX;
@@ -93,7 +93,7 @@ pub fn rebuilt_lag(
     contour_index: i32,
     k: usize,
 ) -> Rebuilt
-    ensures { λ r. ⌜ r ≡ rebuiltOf «fs_khz» «nb_subfr» complexity «lag_index» «contour_index» k ⌝ }
+    ensures { λ r. ⌜ r ≡ rebuild-call «fs_khz» «nb_subfr» complexity «lag_index» «contour_index» k ⌝ }
     ensures { λ r. ⌜ rebuilt-numbers r ≡ answer-numbers (rebuilt-number «fs_khz» «nb_subfr» complexity «lag_index» «contour_index» k) (rebuilt «fs_khz» «nb_subfr» «lag_index» (natAbs «contour_index») k ∷ []) ⌝ }
 {
     if !settings_accepted(fs_khz, nb_subfr, complexity) {

@@ -2,7 +2,7 @@
 pub mod Marks
 pub mod Meaning
 pub mod MarkLaws
-pub mod MarkFacts
+pub mod MeaningLaws
 pub mod Correlations
 pub mod Rows
 pub mod RowLaws

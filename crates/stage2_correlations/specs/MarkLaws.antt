@@ -1,5 +1,4 @@
 -- Laws of the marked lags: the tests by their bounds.
---
 use mathlib.Core.Path.{_≡_, ap, ap₂, _∙_}
 use mathlib.Core.Bool.{Bool, true, false, _&&_, and-false}
 use mathlib.Core.List.{List}

@@ -1,4 +1,4 @@
--- The listed and the measured lags of stage 2 in words. `MarkFacts` shows that they are those of `Marks`.
+-- The listed and the measured lags of stage 2 in words. `MeaningLaws` shows that they are those of `Marks`.
 use mathlib.Core.List.{List}
 use Prim.Native.Nat.{ℕ, _+_, _*_, _≤_, _<_}
 use lib.ListN.{length, getD}

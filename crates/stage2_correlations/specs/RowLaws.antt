@@ -1,5 +1,4 @@
 -- Laws of a subframe's row: a ratio way by way, the divisor from running energies, one lag more, and the row at the marks of the kept lags.
---
 use mathlib.Core.Path.{_≡_, refl, sym, ap, ap₂, _∙_}
 use mathlib.Core.Bool.{Bool, true, false, _&&_, _||_, cond, or-true, or-false, true≢false}
 use mathlib.Core.List.{List}
@@ -13,9 +12,10 @@ use lib.Signed.{ltZ}
 use mir.Syntax.{w16, w32}
 use Rattle.zint.specs.Wrap.{wrap}
 use Rattle.zint.specs.WrapLaws.{wraps, wrap-fits}
-use Rattle.zint.specs.Bound.{fits-abs}
+use Rattle.zint.specs.BoundLaws.{fits-abs}
 use Rattle.lists.specs.Signal.{sample}
-use Rattle.lists.specs.Fill.{table, getD-table, table-ext}
+use Rattle.lists.specs.Fill.{tabulate}
+use Rattle.lists.specs.FillLaws.{getD-tabulate, tabulate-ext}
 use Rattle.best.specs.Best.{some}
 use Rattle.best.specs.BestLaws.{some-ext, some-true, some-false, some-find, some-none}
 use Rattle.silk_macros.specs.Divide.{quotient, low16-of, by-zero}
@@ -84,16 +84,16 @@ some-same n t e f = f ∙ sym (some-next n t ∙ ap (λ (b : Bool). some n t || 
 -- ---- the row at the marks of the kept lags
 
 pub row-kept : (e : List ℤ) (kept : List ℕ) (k : ℕ)
-    → row e (table (λ i. measured kept (14 + i)) 132) k ≡ record { zero = some 132 (λ i. zero-reached e kept k (14 + i)); c = table (λ i. correlation e kept k (14 + i)) 132 }
+    → row e (tabulate (λ i. measured kept (14 + i)) 132) k ≡ record { zero = some 132 (λ i. zero-reached e kept k (14 + i)); c = tabulate (λ i. correlation e kept k (14 + i)) 132 }
 unfolding row correlation zero-reached
 row-kept e kept k =
-    let marks = table (λ i. measured kept (14 + i)) 132 in
-    let m : (i : ℕ) → i < 132 → getD marks i false ≡ measured kept (14 + i) = λ i h. getD-table _ 132 i false h in
+    let marks = tabulate (λ i. measured kept (14 + i)) 132 in
+    let m : (i : ℕ) → i < 132 → getD marks i false ≡ measured kept (14 + i) = λ i h. getD-tabulate _ 132 i false h in
     let v : ℕ → ℤ = λ i. cond (ltZ (pos 0) (cross e k (14 + i))) (low16-of (quotient2 e k (14 + i))) (pos 0) in
     let z : ℕ → Bool = λ i. ltZ (pos 0) (cross e k (14 + i)) && by-zero (quotient2 e k (14 + i)) in
     (λ t. record {
       zero = some-ext 132 (zero-at e marks k) (λ i. measured kept (14 + i) && z i) (λ i h. ap (λ (b : Bool). b && z i) (m i h)) t;
-      c = table-ext {f = value-at e marks k} {g = λ i. cond (measured kept (14 + i)) (v i) (pos 0)} 132 (λ i h. ap (λ (b : Bool). cond b (v i) (pos 0)) (m i h)) t;
+      c = tabulate-ext {f = value-at e marks k} {g = λ i. cond (measured kept (14 + i)) (v i) (pos 0)} 132 (λ i h. ap (λ (b : Bool). cond b (v i) (pos 0)) (m i h)) t;
     })
 
 -- ---- a correlation has 16 bits

@@ -1,5 +1,4 @@
 -- What the functions of a subframe answer, over any marks: a ratio, a lag's correlation, and the row of the lags 14 to 145. Nothing here is part of what stage 2 means.
---
 use mathlib.Core.Bool.{Bool, false, _&&_, cond}
 use mathlib.Core.List.{List}
 use Prim.Native.Nat.{ℕ, _+_, _-_}
@@ -8,7 +7,7 @@ use lib.ListN.{drop, getD}
 use lib.Signed.{ltZ}
 use mir.Syntax.{w32}
 use Rattle.zint.specs.Wrap.{wrap}
-use Rattle.lists.specs.Fill.{table}
+use Rattle.lists.specs.Fill.{tabulate}
 use Rattle.best.specs.Best.{some}
 use Rattle.silk_macros.specs.Divide.{quotient, by-zero, low16-of}
 use Rattle.silk_macros.specs.declared.Quotient.{Quotient}
@@ -38,4 +37,4 @@ abbrev pub zero-at : List ℤ → List Bool → ℕ → ℕ → Bool
 zero-at e m k i = getD m i false && (ltZ (pos 0) (cross e k (14 + i)) && by-zero (quotient2 e k (14 + i)))
 
 unfoldable pub row : List ℤ → List Bool → ℕ → Row
-row e m k = record { zero = some 132 (zero-at e m k); c = table (value-at e m k) 132 }
+row e m k = record { zero = some 132 (zero-at e m k); c = tabulate (value-at e m k) 132 }

@@ -5,7 +5,7 @@ ghost use lib.IntN.{_+ℤ_, _-ℤ_, _*ℤ_};
 ghost use lib.ListN.{length};
 ghost use mir.Syntax.{w32};
 ghost use Rattle.zint.specs.Wrap.{wrap};
-ghost use Rattle.lists.specs.Fill.{table};
+ghost use Rattle.lists.specs.Fill.{tabulate};
 ghost use Rattle.stage2_correlations.specs.Marks.{near, listed, measured, Kept};
 ghost use Rattle.stage2_correlations.specs.Correlations.{target};
 ghost use Rattle.stage2_correlations.specs.Rows.{ratio-of, energy-from, at-lag, row};
@@ -81,7 +81,7 @@ fn is_measured(kept: &[usize], d: usize) -> bool
 // Which of the lags 14 to 145 are measured.
 pub fn measured_lags(kept: &[usize]) -> [bool; 132]
     requires { ⌜ Kept (now kept) ⌝ }
-    ensures { λ r. ⌜ r ≡ table (λ (i : ℕ). measured (now (kept .entry)) (14 + i)) 132 ⌝ }
+    ensures { λ r. ⌜ r ≡ tabulate (λ (i : ℕ). measured (now (kept .entry)) (14 + i)) 132 ⌝ }
 {
     let mut marks = [false; 132];
     for i in 0..132 {

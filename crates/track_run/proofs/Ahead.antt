@@ -15,11 +15,12 @@ use Rattle.pitch_track.specs.declared.Track.{Track}
 use Rattle.pitch_track.specs.declared.Delivered.{Delivered}
 use Rattle.track_run.specs.declared.Ran.{Ran}
 use Rattle.pitch_settings.specs.Settings.{settings-no}
-use Rattle.pitch_track.specs.Paper.{framesDone}
-use Rattle.pitch_track.specs.Step.{Outcome, outcome, startOf, deliverOf, numberOf}
-use Rattle.track_run.specs.Chain.{Left, then, chainOf, runOf, finalJ, numbersOf, kept, partsOf, Ended, deliveriesOf, runOutcome, ranOf, EndsOnPaper}
+use Rattle.pitch_track.specs.Paper.{frames-done}
+use Rattle.pitch_track.specs.Step.{DeliveryOutcome, delivery-outcome, start-call, deliver-call, answer-no}
+use Rattle.track_run.specs.Chain.{Left, then, chain, run-from-start, final-samples, answer-nos, accepted-samples, parts, Ended, deliveries, run-outcome, run-call, EndsOnPaper}
 use Rattle.pitch_track.proofs.Frames.{lt-or-le}
 use Rattle.pitch_track.proofs.Rows.{row-read}
+use Rattle.pitch_table.specs.Row.{row-size}
 use Rattle.track_run.proofs.Words.{rows-say}
 use Rattle.track_run.proofs.OnPaper.{on-paper, equation, same-rows}
 
@@ -27,58 +28,58 @@ use Rattle.track_run.proofs.OnPaper.{on-paper, equation, same-rows}
 pub record Ahead (a : Left) (said : List ℕ) (i : ℕ) (b : Left) : Type 0 where
   pub tracks : a .track ≡ b .track
   pub tables : a .table ≡ b .table
-  pub numbers : numbersOf (a .said) ≡ take i said ++ numbersOf (b .said)
+  pub numbers : answer-nos (a .said) ≡ take i said ++ answer-nos (b .said)
 
 pub ahead-none : (a : Left) (said : List ℕ) → Ahead a said 0 a
 ahead-none a said = record { tracks = refl; tables = refl; numbers = refl }
 
-pub ahead-more : (a b : Left) (o : Outcome) (said : List ℕ) (i v : ℕ) → i < length said → v ≡ numberOf (o .delivered .answer)
+pub ahead-more : (a b : Left) (o : DeliveryOutcome) (said : List ℕ) (i v : ℕ) → i < length said → v ≡ answer-no (o .delivered .answer)
     → Ahead a said i (then o b) → Ahead a (set said i v) (suc i) b
-unfolding numbersOf
+unfolding answer-nos
 ahead-more a b o said i v h e p =
     record {
       tracks = p .tracks;
       tables = p .tables;
       numbers =
           p .numbers
-          ∙ ap (λ (n : ℕ). take i said ++ n ∷ numbersOf (b .said)) (sym e)
-          ∙ sym (append-assoc (take i said) (v ∷ []) (numbersOf (b .said)))
-          ∙ ap (λ (l : List ℕ). l ++ numbersOf (b .said)) (sym (take-suc-set said i v h));
+          ∙ ap (λ (n : ℕ). take i said ++ n ∷ answer-nos (b .said)) (sym e)
+          ∙ sym (append-assoc (take i said) (v ∷ []) (answer-nos (b .said)))
+          ∙ ap (λ (l : List ℕ). l ++ answer-nos (b .said)) (sym (take-suc-set said i v h));
     }
 
 -- the part that is delivered next, and what follows it
 pub chain-more : (cuts : List ℕ) (i : ℕ) → i < length cuts → (tr : Track) (t x : List ℤ)
-    → chainOf tr t (partsOf (drop i cuts) x)
-    ≡ then (deliverOf tr t (take (getD cuts i 0) x))
-    (chainOf (deliverOf tr t (take (getD cuts i 0) x) .delivered .track) (deliverOf tr t (take (getD cuts i 0) x) .table) (partsOf (drop (suc i) cuts) (drop (getD cuts i 0) x)))
-unfolding chainOf partsOf
+    → chain tr t (parts (drop i cuts) x)
+    ≡ then (deliver-call tr t (take (getD cuts i 0) x))
+    (chain (deliver-call tr t (take (getD cuts i 0) x) .delivered .track) (deliver-call tr t (take (getD cuts i 0) x) .table) (parts (drop (suc i) cuts) (drop (getD cuts i 0) x)))
+unfolding chain parts
 chain-more cuts i h tr t x = rw (drop-cons cuts i 0 h)
 
 pub chain-none : (cuts : List ℕ) (i : ℕ) → length cuts ≤ i → (tr : Track) (t x : List ℤ)
-    → chainOf tr t (partsOf (drop i cuts) x) ≡ record { said = []; track = tr; table = t }
-unfolding chainOf partsOf
+    → chain tr t (parts (drop i cuts) x) ≡ record { said = []; track = tr; table = t }
+unfolding chain parts
 chain-none cuts i h tr t x = rw (drop-of-length-le cuts h)
 
 -- a turn: the part d is delivered, and y is what is left of the samples x
 pub turn : (a : Left) (cuts : List ℕ) (i : ℕ) (tr : Track) (t x d y : List ℤ) (said : List ℕ) (v : ℕ) (r : Delivered) (t′ : List ℤ)
     → i < length cuts → i < length said
     → d ≡ take (getD cuts i 0) x → y ≡ drop (getD cuts i 0) x
-    → outcome r t′ ≡ deliverOf tr t d
-    → v ≡ numberOf (r .answer)
-    → Ahead a said i (chainOf tr t (partsOf (drop i cuts) x))
-    → Ahead a (set said i v) (i + 1) (chainOf (r .track) t′ (partsOf (drop (i + 1) cuts) y))
+    → delivery-outcome r t′ ≡ deliver-call tr t d
+    → v ≡ answer-no (r .answer)
+    → Ahead a said i (chain tr t (parts (drop i cuts) x))
+    → Ahead a (set said i v) (i + 1) (chain (r .track) t′ (parts (drop (i + 1) cuts) y))
 turn a cuts i tr t x d y said v r t′ hc hs ed ey e ev p =
     rw (add-one, ey)
-    (ahead-more a _ (outcome r t′) said i v hs ev
+    (ahead-more a _ (delivery-outcome r t′) said i v hs ev
     (subst
-    (λ (o : Outcome). Ahead a said i (then o (chainOf (o .delivered .track) (o .table) (partsOf (drop (suc i) cuts) (drop (getD cuts i 0) x)))))
-    (sym (e ∙ ap (deliverOf tr t) ed))
+    (λ (o : DeliveryOutcome). Ahead a said i (then o (chain (o .delivered .track) (o .table) (parts (drop (suc i) cuts) (drop (getD cuts i 0) x)))))
+    (sym (e ∙ ap (deliver-call tr t) ed))
     (subst (Ahead a said i) (chain-more cuts i hc tr t x) p)))
 
 -- the end of the chain
 pub ahead-all : (a : Left) (said : List ℕ) (tr : Track) (table : List ℤ) (i : ℕ) → length said ≤ i → Ahead a said i (record { said = []; track = tr; table = table })
-    → (tr ≡ a .track) × ((said ≡ numbersOf (a .said)) × (table ≡ a .table))
-unfolding numbersOf
+    → (tr ≡ a .track) × ((said ≡ answer-nos (a .said)) × (table ≡ a .table))
+unfolding answer-nos
 ahead-all a said tr table i h p = (sym (p .tracks), (sym (p .numbers ∙ append-nil (take i said) ∙ take-all i said h), sym (p .tables)))
 
 -- a number past the end of a list takes or drops what its length does
@@ -98,64 +99,64 @@ module _ {A : Type 0} (n : ℕ) (x : List A) where
       (lt-or-le n (length x))
 
 -- a number for each delivery
-pub length-said : (tr : Track) (t : List ℤ) (ds : List (List ℤ)) → length (numbersOf (chainOf tr t ds .said)) ≡ length ds
-unfolding chainOf numbersOf
+pub length-said : (tr : Track) (t : List ℤ) (ds : List (List ℤ)) → length (answer-nos (chain tr t ds .said)) ≡ length ds
+unfolding chain answer-nos
 length-said tr t [] = refl
-length-said tr t (d ∷ ds) = ap suc (length-said (deliverOf tr t d .delivered .track) (deliverOf tr t d .table) ds)
+length-said tr t (d ∷ ds) = ap suc (length-said (deliver-call tr t d .delivered .track) (deliver-call tr t d .table) ds)
 
-pub length-parts : (cuts : List ℕ) (x : List ℤ) → length (partsOf cuts x) ≡ length cuts
-unfolding partsOf
+pub length-parts : (cuts : List ℕ) (x : List ℤ) → length (parts cuts x) ≡ length cuts
+unfolding parts
 length-parts [] x = refl
 length-parts (n ∷ ns) x = ap suc (length-parts ns (drop n x))
 
 -- what a run leaves is the track on paper
 pub ended : (s : Settings) → settings-no s ≡ 0 → (t : List ℤ) (ds : List (List ℤ)) (said : List ℕ) (tr : Track) (table : List ℤ)
-    → tr ≡ runOf s t ds .track → said ≡ numbersOf (runOf s t ds .said) → table ≡ runOf s t ds .table → Ended s t ds said tr table
+    → tr ≡ run-from-start s t ds .track → said ≡ answer-nos (run-from-start s t ds .said) → table ≡ run-from-start s t ds .table → Ended s t ds said tr table
 ended s ok t ds said tr table e n h =
     let q = on-paper s ok t ds in
     record {
-      answers-are = n ∙ ap numbersOf (q .said);
+      answers-are = n ∙ ap answer-nos (q .said);
       frames-are = ap (λ (x : Track). x .frames) e ∙ q .frames;
       held-are = ap (λ (x : Track). take (x .count) (x .held)) e ∙ q .held;
-      rows-are = λ k g. ap (λ (l : List ℤ). take 8 (drop (k * 8) l)) h ∙ q .rows k g;
-      others-are = ap (drop (framesDone s (finalJ s t ds) * 8)) h ∙ q .others;
-      rows-say = λ k g. rw (row-read table k _ (ap (λ (l : List ℤ). take 8 (drop (k * 8) l)) h ∙ q .rows k g)) (rows-say s (finalJ s t ds) ok k g);
+      rows-are = λ k g. ap (λ (l : List ℤ). take row-size (drop (k * row-size) l)) h ∙ q .rows k g;
+      others-are = ap (drop (frames-done s (final-samples s t ds) * row-size)) h ∙ q .others;
+      rows-say = λ k g. rw (row-read table k _ (ap (λ (l : List ℤ). take row-size (drop (k * row-size) l)) h ∙ q .rows k g)) (rows-say s (final-samples s t ds) ok k g);
       state-is = e ∙ ap (λ (l : Left). l .track) (equation s ok t ds);
       table-is = h ∙ ap (λ (l : Left). l .table) (equation s ok t ds);
-      cuts-free = λ u es a. rw (e, h) (same-rows s ok t u ds es (ap (λ (k : List ℕ). kept k ds) (sym n) ∙ a));
+      cuts-free = λ u es a. rw (e, h) (same-rows s ok t u ds es (ap (λ (k : List ℕ). accepted-samples k ds) (sym n) ∙ a));
     }
 
 -- a run with settings that are accepted, and one with settings that are refused
 module _ (s : Settings) (t : List ℤ) (cuts : List ℕ) (x : List ℤ) (said : List ℕ) where
   abbrev made : List (List ℤ)
-  made = deliveriesOf s cuts x (length said)
+  made = deliveries s cuts x (length said)
 
   module _ (ok : settings-no s ≡ 0) where
-    pub made-parts : made ≡ partsOf (take (length said) cuts) x
-    unfolding deliveriesOf
+    pub made-parts : made ≡ parts (take (length said) cuts) x
+    unfolding deliveries
     made-parts = rw (eq-eqb (settings-no s) 0 ok)
 
     pub length-made : length made ≡ min (length said) (length cuts)
     length-made = ap length made-parts ∙ length-parts (take (length said) cuts) x ∙ length-take (length said) cuts
 
     -- front holds the numbers of the n deliveries
-    module _ (n : ℕ) (all : n ≡ length made) (r : Ran) (front : List ℕ) (table : List ℤ) (same-answer : r .answer ≡ startOf s .answer)
-        (same-track : r .track ≡ runOf s t made .track) (numbers : front ≡ numbersOf (runOf s t made .said)) (same-table : table ≡ runOf s t made .table) where
-      pub ran : runOutcome r (front ++ drop n said) table ≡ ranOf s t made said
-      unfolding ranOf
-      ran = λ i. runOutcome (record { answer = same-answer i; track = same-track i }) (numbers i ++ drop (all i) said) (same-table i)
+    module _ (n : ℕ) (all : n ≡ length made) (r : Ran) (front : List ℕ) (table : List ℤ) (same-answer : r .answer ≡ start-call s .answer)
+        (same-track : r .track ≡ run-from-start s t made .track) (numbers : front ≡ answer-nos (run-from-start s t made .said)) (same-table : table ≡ run-from-start s t made .table) where
+      pub ran : run-outcome r (front ++ drop n said) table ≡ run-call s t made said
+      unfolding run-call
+      ran = λ i. run-outcome (record { answer = same-answer i; track = same-track i }) (numbers i ++ drop (all i) said) (same-table i)
 
       pub ends : EndsOnPaper s t made (front ++ drop n said) r table
       ends h =
           ended s h t made _ (r .track) table same-track
-          (take-at front (drop n said) (length made) (ap length numbers ∙ length-said (startOf s .track) t made) ∙ numbers)
+          (take-at front (drop n said) (length made) (ap length numbers ∙ length-said (start-call s .track) t made) ∙ numbers)
           same-table
 
   module _ (wrong : settings-no s ≡ 0 → ⊥) where
     pub made-none : made ≡ []
-    unfolding deliveriesOf
+    unfolding deliveries
     made-none = rw (ne-eqb (settings-no s) 0 wrong)
 
-    pub refused : (r : Ran) → r .answer ≡ startOf s .answer → r .track ≡ startOf s .track → runOutcome r said t ≡ ranOf s t made said
-    unfolding ranOf chainOf numbersOf
-    refused r e h = (λ i. runOutcome (record { answer = e i; track = h i }) said t) ∙ ap (λ (ds : List (List ℤ)). ranOf s t ds said) (sym made-none)
+    pub refused : (r : Ran) → r .answer ≡ start-call s .answer → r .track ≡ start-call s .track → run-outcome r said t ≡ run-call s t made said
+    unfolding run-call chain answer-nos
+    refused r e h = (λ i. run-outcome (record { answer = e i; track = h i }) said t) ∙ ap (λ (ds : List (List ℤ)). run-call s t ds said) (sym made-none)

@@ -1,5 +1,4 @@
 -- Each finished row says what `specs/Words` states: from the theorem of the frame, at the row's own samples and what the row before it left.
---
 use mathlib.Core.Path.{_≡_, refl, ap, _∙_}
 use mathlib.Core.Bool.{Bool, true, false, cond}
 use mathlib.Core.List.{List, _∷_}
@@ -13,15 +12,15 @@ use lib.ListN.{length, take, drop, length-drop, replicate}
 use lib.Seq.{length-take-le}
 use Rattle.pitch_settings.specs.declared.Settings.{Settings}
 use Rattle.pitch_settings.specs.Settings.{settings-no, frame-length, hop-length}
-use Rattle.pitch_settings.specs.SettingsLaws.{accepted}
+use Rattle.pitch_settings.specs.SettingsLaws.{accepted-settings}
 use Rattle.pitch_table.specs.Row.{numbers}
 use Rattle.silk_tables.specs.Rebuild.{rebuilt}
 use Rattle.silk_pitch_analysis.specs.declared.Verdict.{Verdict}
 use Rattle.silk_pitch_analysis.specs.declared.Verdict.the-variants.{Voiced, Unvoiced, ZeroDivisor}
-use Rattle.silk_pitch_analysis.specs.Frame.{number-of, index-of, contour-of, correlation-of, lag-of, row-lag, row-from, row-of, verdict-of}
+use Rattle.silk_pitch_analysis.specs.Frame.{number-of, index-of, contour-of, correlation-of, lag-of, row-lag, row-from, frame-row, verdict-of}
 use Rattle.silk_pitch_analysis.specs.Meaning.{VerdictExactly}
-use Rattle.silk_pitch_analysis.specs.Theorem.{verdict-exactly}
-use Rattle.pitch_track.specs.Paper.{F, nothing, framesDone, windowOf, before, rowAt}
+use Rattle.silk_pitch_analysis.specs.MeaningLaws.{verdict-exactly}
+use Rattle.pitch_track.specs.Paper.{F, no-previous, frames-done, window, previous, paper-row}
 use Rattle.track_run.specs.Words.{subframe-lag, RowSays}
 use Rattle.pitch_track.proofs.Frames.{fits}
 
@@ -81,8 +80,8 @@ zeros-by s Unvoiced h = rw (either (ltb 0 (s .nb)), either (ltb 1 (s .nb)), eith
 zeros-by s ZeroDivisor h = rw (either (ltb 0 (s .nb)), either (ltb 1 (s .nb)), either (ltb 2 (s .nb)), either (ltb 3 (s .nb)))
 
 -- the row of a whole frame
-pub row-says : (s : Settings) (x : List ℤ) (prev corr : ℤ) → settings-no s ≡ 0 → length x ≡ frame-length s → RowSays s x prev corr (row-of s x prev corr)
-unfolding row-of row-from
+pub row-says : (s : Settings) (x : List ℤ) (prev corr : ℤ) → settings-no s ≡ 0 → length x ≡ frame-length s → RowSays s x prev corr (frame-row s x prev corr)
+unfolding frame-row row-from
 row-says s x prev corr h len =
     let v : Verdict = verdict-of s x prev corr in
     let exactly : VerdictExactly s x prev corr = verdict-exactly s x prev corr h len in
@@ -97,17 +96,17 @@ row-says s x prev corr h len =
       unvoiced-where = λ m. ap number-of (exactly Unvoiced .1 m);
       zero-only = λ e. exactly ZeroDivisor .0 (is-zero v e);
       zero-where = λ m. ap number-of (exactly ZeroDivisor .1 m);
-      lags = λ e k l. lags-by s v (accepted s h .nb-high) e k l;
+      lags = λ e k l. lags-by s v (accepted-settings s h .nb-high) e k l;
       no-more-lags = λ k l. past s v k l;
       zeros-after = λ e. zeros-by s v e;
     }
 
 -- row i of the track on paper, for every finished frame
-pub rows-say : (s : Settings) (j : List ℤ) → settings-no s ≡ 0 → (i : ℕ) → i < framesDone s j
-    → RowSays s (windowOf s j i) (before s j nothing i .lag) (before s j nothing i .correlation) (rowAt s j nothing i)
-unfolding windowOf rowAt
+pub rows-say : (s : Settings) (j : List ℤ) → settings-no s ≡ 0 → (i : ℕ) → i < frames-done s j
+    → RowSays s (window s j i) (previous s j no-previous i .lag) (previous s j no-previous i .correlation) (paper-row s j no-previous i)
+unfolding window paper-row
 rows-say s j h i l =
-    let a = accepted s h in
+    let a = accepted-settings s h in
     let inside : i * hop-length s + frame-length s ≤ length j = fits (frame-length s) (hop-length s) (a .some) (a .within) (length j) i l in
     let len : length (take (frame-length s) (drop (i * hop-length s) j)) ≡ frame-length s = length-take-le (frame-length s) (drop (i * hop-length s) j) (omega (arith, length-drop (i * hop-length s) j)) in
-    row-says s (take (frame-length s) (drop (i * hop-length s) j)) (before s j nothing i .lag) (before s j nothing i .correlation) h len
+    row-says s (take (frame-length s) (drop (i * hop-length s) j)) (previous s j no-previous i .lag) (previous s j no-previous i .correlation) h len

@@ -6,8 +6,8 @@ ghost use lib.IntN.{pos};
 ghost use lib.ListN.{length};
 ghost use Rattle.answers.specs.Answer.{answer-numbers};
 ghost use Rattle.pitch_settings.specs.Settings.{settings-no};
-ghost use Rattle.pitch_track.specs.Step.{answer-in-numbers};
-ghost use Rattle.track_run.specs.Chain.{numbersOf, chainOf, partsOf, deliveriesOf, runOutcome, ranOf, EndsOnPaper};
+ghost use Rattle.pitch_track.specs.Step.{track-answer-numbers};
+ghost use Rattle.track_run.specs.Chain.{answer-nos, chain, parts, deliveries, run-outcome, run-call, EndsOnPaper};
 use pitch_settings::Settings;
 use pitch_track::Answer;
 use pitch_track::Track;
@@ -37,9 +37,9 @@ fn deliver_parts(
     said: &mut [usize],
 ) -> Track
     requires { ⌜ length (now said) ≡ length (now cuts) ⌝ }
-    ensures { λ r. ⌜ r ≡ chainOf track (now (table .entry)) (partsOf (now (cuts .entry)) (now (samples .entry))) .track ⌝ }
-    ensures { λ _. ⌜ now (said .exit) ≡ numbersOf (chainOf track (now (table .entry)) (partsOf (now (cuts .entry)) (now (samples .entry))) .said) ⌝ }
-    ensures { λ _. ⌜ now (table .exit) ≡ chainOf track (now (table .entry)) (partsOf (now (cuts .entry)) (now (samples .entry))) .table ⌝ }
+    ensures { λ r. ⌜ r ≡ chain track (now (table .entry)) (parts (now (cuts .entry)) (now (samples .entry))) .track ⌝ }
+    ensures { λ _. ⌜ now (said .exit) ≡ answer-nos (chain track (now (table .entry)) (parts (now (cuts .entry)) (now (samples .entry))) .said) ⌝ }
+    ensures { λ _. ⌜ now (table .exit) ≡ chain track (now (table .entry)) (parts (now (cuts .entry)) (now (samples .entry))) .table ⌝ }
 {
     let mut at = 0;
     let mut i = 0;
@@ -66,10 +66,10 @@ pub fn run(
     table: &mut [i32],
     said: &mut [usize],
 ) -> Ran
-    ensures { λ r. ⌜ runOutcome r (now (said .exit)) (now (table .exit))
-        ≡ ranOf s (now (table .entry)) (deliveriesOf s (now (cuts .entry)) (now (samples .entry)) (length (now (said .entry)))) (now (said .entry)) ⌝ }
-    ensures { λ r. ⌜ EndsOnPaper s (now (table .entry)) (deliveriesOf s (now (cuts .entry)) (now (samples .entry)) (length (now (said .entry)))) (now (said .exit)) r (now (table .exit)) ⌝ }
-    ensures { λ r. ⌜ answer-in-numbers (r .answer) ≡ answer-numbers (settings-no s) (pos 0 ∷ []) ⌝ }
+    ensures { λ r. ⌜ run-outcome r (now (said .exit)) (now (table .exit))
+        ≡ run-call s (now (table .entry)) (deliveries s (now (cuts .entry)) (now (samples .entry)) (length (now (said .entry)))) (now (said .entry)) ⌝ }
+    ensures { λ r. ⌜ EndsOnPaper s (now (table .entry)) (deliveries s (now (cuts .entry)) (now (samples .entry)) (length (now (said .entry)))) (now (said .exit)) r (now (table .exit)) ⌝ }
+    ensures { λ r. ⌜ track-answer-numbers (r .answer) ≡ answer-numbers (settings-no s) (pos 0 ∷ []) ⌝ }
 {
     let started = Track::start(s);
     let answer = started.answer;

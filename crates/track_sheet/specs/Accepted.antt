@@ -6,19 +6,20 @@ use lib.IntN.{ℤ}
 use lib.ListN.{length, take, drop}
 use mir.Syntax.{w32}
 use mir.Val.{SFits}
-use Rattle.lists.specs.Fill.{table}
+use Rattle.lists.specs.Fill.{tabulate}
 use Rattle.pitch_settings.specs.declared.Settings.{Settings}
 use Rattle.pitch_table.specs.declared.Row.{Row}
-use Rattle.pitch_track.specs.Paper.{nothing, rowAt, rowsOf, framesDone}
-use Rattle.track_run.specs.Chain.{runOf, finalJ}
+use Rattle.pitch_track.specs.Paper.{no-previous, paper-row, paper-numbers, frames-done}
+use Rattle.track_run.specs.Chain.{run-from-start, final-samples}
 use Rattle.sheet_sections.specs.Sheet.{sheet, sheet-length}
 use Rattle.pitch_sheet.specs.declared.Wrote.the-variants.{Written}
 use Rattle.pitch_sheet.specs.declared.Got.the-variants.{Read}
-use Rattle.pitch_sheet.specs.Calls.{whole-rows, write-no, wrote, writeOf, got, readOf}
+use Rattle.pitch_sheet.specs.Calls.{whole-rows, write-no, wrote, write-call, got, read-call}
+use Rattle.pitch_table.specs.Row.{row-size}
 
 -- the finished rows of the track on paper whose accepted samples are j, and their sheet
 unfoldable pub paper-rows : Settings → List ℤ → List Row
-paper-rows s j = table (rowAt s j nothing) (framesDone s j)
+paper-rows s j = tabulate (paper-row s j no-previous) (frames-done s j)
 
 unfoldable pub paper-sheet : Settings → List ℤ → List ℕ
 paper-sheet s j = sheet s (paper-rows s j)
@@ -27,14 +28,14 @@ paper-sheet s j = sheet s (paper-rows s j)
 module _ (s : Settings) (t : List ℤ) (ds : List (List ℤ)) where
   -- the refusal of writing what they left on a page of `room` bytes, or 0; and the writing of it
   abbrev pub left-no : ℕ → ℕ
-  left-no room = write-no s (runOf s t ds .track .frames) (runOf s t ds .table) room
+  left-no room = write-no s (run-from-start s t ds .track .frames) (run-from-start s t ds .table) room
 
   abbrev pub left-sheet : List ℕ
-  left-sheet = paper-sheet s (finalJ s t ds)
+  left-sheet = paper-sheet s (final-samples s t ds)
 
   abbrev pub WrittenOn : List ℕ → Type 0
   WrittenOn page =
-      writeOf s (runOf s t ds .track .frames) (runOf s t ds .table) page ≡ wrote (Written (length left-sheet)) (left-sheet ++ drop (length left-sheet) page)
+      write-call s (run-from-start s t ds .track .frames) (run-from-start s t ds .table) page ≡ wrote (Written (length left-sheet)) (left-sheet ++ drop (length left-sheet) page)
 
   pub record AcceptedByWrite : Type 0 where
     -- nothing is refused but a page that is shorter than the sheet, with 8; so 9 is never said
@@ -46,6 +47,6 @@ module _ (s : Settings) (t : List ℤ) (ds : List (List ℤ)) where
     pub written-on-longest : (page : List ℕ) → sheet-length 4096 4096 ≤ length page → WrittenOn page
     -- what was written reads back to the settings, the frames done and the rows of the track on paper, into any table that has the rows; a program's thresholds have 32 bits
     pub reads-back : SFits w32 (s .thres1) → SFits w32 (s .thres2) → (page : List ℕ) → length left-sheet ≤ length page
-        → (into : List ℤ) → framesDone s (finalJ s t ds) ≤ whole-rows into
-        → readOf (take (length left-sheet) (writeOf s (runOf s t ds .track .frames) (runOf s t ds .table) page .page)) into
-        ≡ got (Read s (framesDone s (finalJ s t ds))) (rowsOf s (finalJ s t ds) nothing (framesDone s (finalJ s t ds)) ++ drop (framesDone s (finalJ s t ds) * 8) into)
+        → (into : List ℤ) → frames-done s (final-samples s t ds) ≤ whole-rows into
+        → read-call (take (length left-sheet) (write-call s (run-from-start s t ds .track .frames) (run-from-start s t ds .table) page .page)) into
+        ≡ got (Read s (frames-done s (final-samples s t ds))) (paper-numbers s (final-samples s t ds) no-previous (frames-done s (final-samples s t ds)) ++ drop (frames-done s (final-samples s t ds) * row-size) into)

@@ -1,5 +1,4 @@
 -- Every row of a whole frame is one that a sheet can hold, and its correlation has 32 bits.
---
 use mathlib.Core.Path.{_≡_, refl}
 use mathlib.Core.Bool.{Bool, true, false, cond}
 use mathlib.Core.List.{List}
@@ -10,22 +9,22 @@ use lib.ListN.{length}
 use lib.Signed.{quotZ}
 use mir.Syntax.{w32}
 use mir.Val.{SFits}
-use Rattle.zint.specs.Bound.{abs-prod, abs-fits}
+use Rattle.zint.specs.BoundLaws.{abs-prod, abs-fits}
 use Rattle.silk_tables.specs.CarriedLaws.{carried-yes}
 use Rattle.stage2_correlations.specs.Correlations.{correlation}
 use Rattle.stage2_correlations.specs.RowLaws.{correlation-small}
-use Rattle.silk_stage2.specs.Scores.{contour-sum}
-use Rattle.silk_stage2.specs.ScoreLaws.{Small, quot-le, contour-small}
+use Rattle.stage2.specs.Scores.{contour-sum}
+use Rattle.stage2.specs.ScoreLaws.{Small, quot-le, contour-small}
 use Rattle.pitch_settings.specs.declared.Settings.{Settings}
 use Rattle.pitch_settings.specs.Settings.{settings-no, frame-length}
-use Rattle.pitch_settings.specs.SettingsLaws.{accepted}
+use Rattle.pitch_settings.specs.SettingsLaws.{accepted-settings}
 use Rattle.silk_pitch_analysis.specs.declared.Verdict.{Verdict}
 use Rattle.silk_pitch_analysis.specs.declared.Verdict.the-variants.{Voiced, Unvoiced, ZeroDivisor}
-use Rattle.silk_pitch_analysis.specs.Frame.{row-lag, row-from, row-of, verdict-of}
+use Rattle.silk_pitch_analysis.specs.Frame.{row-lag, row-from, frame-row, verdict-of}
 use Rattle.silk_pitch_analysis.specs.FrameLaws.{Carried, voiced, unvoiced, zero-divisor}
 use Rattle.silk_pitch_analysis.specs.VerdictLaws.{verdict-carried}
 use Rattle.silk_pitch_analysis.specs.Meaning.{e, lags, Means, VoicedWhen}
-use Rattle.silk_pitch_analysis.specs.Theorem.{verdict-means}
+use Rattle.silk_pitch_analysis.specs.MeaningLaws.{verdict-means}
 use Rattle.sheet_rows.specs.Rows.{lag-place, voiced-row, quiet-row, row-holds}
 use Rattle.sheet_rows.specs.RowsLaws.{row-voiced, row-unvoiced, row-zero-divisor, holds-yes}
 
@@ -65,7 +64,7 @@ module _ (s : Settings) (x : List ℤ) (prev corr : ℤ) (h : settings-no s ≡ 
       let w = v .won in
       let sum = contour-sum c (s .nb) (v .winner) (v .winner-contour) in
       let sized = contour-small c (s .nb) (v .winner) small (w .passes-so .lists .at-least) (w .passes-so .lists .at-most) (v .winner-contour) in
-      let part = quot-le sum (s .nb) 32768 (omega (arith, accepted s h .nb-low)) (omega (arith, sized)) in
+      let part = quot-le sum (s .nb) 32768 (omega (arith, accepted-settings s h .nb-low)) (omega (arith, sized)) in
       rw (w .correlates) (abs-prod {A = 32768} {B = 4} (quotZ sum (pos (s .nb))) (pos 4) part (omega arith))
 
   correlation-fits : (v : Verdict) → Means s x prev corr v → SFits w32 (row-from s v .correlation)
@@ -77,10 +76,10 @@ module _ (s : Settings) (x : List ℤ) (prev corr : ℤ) (h : settings-no s ≡ 
 -- ---- a whole frame
 
 module _ (s : Settings) (x : List ℤ) (prev corr : ℤ) (h : settings-no s ≡ 0) (len : length x ≡ frame-length s) where
-  pub frame-holds : row-holds s (row-of s x prev corr) ≡ true
-  unfolding row-of
+  pub frame-holds : row-holds s (frame-row s x prev corr) ≡ true
+  unfolding frame-row
   frame-holds = holds s (verdict-carried s x h len prev corr)
 
-  pub frame-correlation : SFits w32 (row-of s x prev corr .correlation)
-  unfolding row-of
+  pub frame-correlation : SFits w32 (frame-row s x prev corr .correlation)
+  unfolding frame-row
   frame-correlation = correlation-fits s x prev corr h (verdict-of s x prev corr) (verdict-means s x prev corr h len)

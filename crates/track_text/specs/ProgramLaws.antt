@@ -1,5 +1,4 @@
 -- Laws of the program's text: the settings and samples of an input's first bytes, the limit of 1,024 frames, the refusal's number, the whole outcome, and the rows of a fresh track.
---
 use mathlib.Core.Path.{_≡_, refl, sym, ap, _∙_, subst}
 use mathlib.Core.Bool.{Bool, true, false, _||_, cond}
 use mathlib.Core.List.{List, [], _∷_, _++_, append-nil}
@@ -11,33 +10,33 @@ use borrow.Author.Tests.{lt-ltb, le-ltb, le-leb, lt-leb, eq-eqb, ne-eqb, ltb-fal
 use lib.Dec.{ltb, leb, eqb}
 use lib.IntN.{ℤ}
 use lib.ListN.{length, drop, replicate, length-append, length-replicate}
-use Rattle.lists.specs.Push.{headed}
-use Rattle.pitch_input.specs.Input.{settings-in}
+use Rattle.lists.specs.Fill.{overwritten}
+use Rattle.pitch_input.specs.Input.{input-settings}
 use Rattle.pitch_input.specs.InputLaws.{settings-front, settings-small, length-samples}
 use Rattle.pitch_settings.specs.declared.Settings.{Settings}
 use Rattle.pitch_settings.specs.Settings.{settings-no, frame-length, hop-length}
-use Rattle.pitch_settings.specs.SettingsLaws.{accepted}
-use Rattle.pitch_table.specs.Row.{row-at}
-use Rattle.pitch_track.specs.Paper.{F, nothing, rowAt, rowsOf, tableOf}
-use Rattle.pitch_track.specs.Step.{startOf, freshOf, refusalOf, noOf, pendingOf, acceptedOf, deliverOf, Outcome}
+use Rattle.pitch_settings.specs.SettingsLaws.{accepted-settings}
+use Rattle.pitch_table.specs.Row.{row-size, row-at}
+use Rattle.pitch_track.specs.Paper.{F, no-previous, paper-row, paper-numbers, paper-table}
+use Rattle.pitch_track.specs.Step.{start-call, fresh-track, delivery-refusal, delivery-no, pending, accepted-delivery, deliver-call, DeliveryOutcome}
 use Rattle.pitch_track.proofs.Frames.{lt-or-le, fits, many}
 use Rattle.pitch_track.proofs.Rows.{row-in, row-read}
 use Rattle.pitch_track.proofs.Deliver.{accepts}
 use Rattle.pitch_text.specs.Text.{refused-text}
-use Rattle.track_text.specs.Program.{Tracked, samples-in, half-input, first-no, program-no, samples-left, report, track-text, printed, samples-after, table-after, answered}
+use Rattle.track_text.specs.Program.{Tracked, samples-in, half-input, first-program-refusal, program-no, samples-left, track-report, track-text, track-printed, samples-after, track-table-after, answered}
 
 -- ---- the limit
 pub hop-small : (s : Settings) → settings-no s ≡ 0 → hop-length s ≤ 320
 unfolding hop-length
 hop-small s e =
-    let a = accepted s e in
+    let a = accepted-settings s e in
     ⊎-elim (λ (q : s .nb ≡ 2). rw q (omega (arith, a .rate-high))) (λ (q : s .nb ≡ 4). rw q (omega (arith, a .rate-high))) (a .subframes)
 
 module _ (s : Settings) (e : settings-no s ≡ 0) (n : ℕ) where
   -- more than 1,024 frames
   pub long-is : leb (1024 * hop-length s + frame-length s) n ≡ ltb 1024 (F s n)
   long-is =
-      let a = accepted s e in
+      let a = accepted-settings s e in
       ⊎-elim
       (λ (q : n < 1024 * hop-length s + frame-length s).
       lt-leb _ _ q
@@ -49,13 +48,13 @@ module _ (s : Settings) (e : settings-no s ≡ 0) (n : ℕ) where
   -- the last frame lies within the samples
   pub last-frame : (f : ℕ) → f ≡ F s n → (f ≡ 0 → ⊥) → (f - 1) * hop-length s + frame-length s ≤ n
   last-frame f g h =
-      let a = accepted s e in
+      let a = accepted-settings s e in
       ⊎-elim (λ (q : 0 < f). fits (frame-length s) (hop-length s) (a .some) (a .within) n (f - 1) (omega arith)) (λ (q : f ≤ 0). absurd (h (omega arith))) (lt-or-le 0 f)
 
   -- 328,320 samples are too many at every setting
   pub too-many : 328320 ≤ n → 1024 < F s n
   too-many h =
-      let a = accepted s e in
+      let a = accepted-settings s e in
       many (frame-length s) (hop-length s) (a .some) (a .within) n 1024 (omega (arith, hop-small s e, a .small))
 
   pub few-samples : F s n ≤ 1024 → n < 328320
@@ -80,7 +79,7 @@ module _ (b r : List ℕ) (more : ℕ) (rest : length r ≡ more) (full : 0 < mo
   whole = length-append b r ∙ ap (λ (n : ℕ). length b + n) rest
 
   pub no-short : length b < 11 → 10 ≡ program-no (b ++ r)
-  unfolding program-no first-no half-input
+  unfolding program-no first-program-refusal half-input
   no-short h =
       let l : length (b ++ r) < 11 =
       ⊎-elim (λ (q : 0 < more). absurd (omega (arith, full q))) (λ (q : more ≤ 0). omega (arith, whole)) (lt-or-le 0 more) in
@@ -94,24 +93,24 @@ module _ (b r : List ℕ) (more : ℕ) (rest : length r ≡ more) (full : 0 < mo
         let e : (length b - 11 + more % 2) % 2 ≡ (length (b ++ r) - 11) % 2 = omega (arith, whole) in
         rw (le-ltb (length (b ++ r)) 11 l, e)
 
-    settings-is : settings-no (settings-in b) ≡ settings-no (settings-in (b ++ r))
+    settings-is : settings-no (input-settings b) ≡ settings-no (input-settings (b ++ r))
     settings-is = ap settings-no (sym (settings-front b r enough))
 
     -- refused settings
-    pub no-wrong : (w : ℕ) → w ≡ settings-no (settings-in b) → (w ≡ 0 → ⊥) → first-no (eqb ((length b - 11 + more % 2) % 2) 1) w false ≡ program-no (b ++ r)
-    unfolding program-no first-no
+    pub no-wrong : (w : ℕ) → w ≡ settings-no (input-settings b) → (w ≡ 0 → ⊥) → first-program-refusal (eqb ((length b - 11 + more % 2) % 2) 1) w false ≡ program-no (b ++ r)
+    unfolding program-no first-program-refusal
     no-wrong w e h = rw (half-is, ← settings-is, ← e, ne-eqb w 0 h)
 
     -- more bytes than are at hand: too many frames
-    pub no-more : settings-no (settings-in b) ≡ 0 → 0 < more → first-no (eqb ((length b - 11 + more % 2) % 2) 1) 0 true ≡ program-no (b ++ r)
+    pub no-more : settings-no (input-settings b) ≡ 0 → 0 < more → first-program-refusal (eqb ((length b - 11 + more % 2) % 2) 1) 0 true ≡ program-no (b ++ r)
     unfolding program-no
     no-more e h =
         let k = sym settings-is ∙ e in
         let n : 328320 ≤ length (samples-in (b ++ r)) = rw (samples-count (b ++ r)) (omega (arith, whole, full h)) in
-        rw (half-is, k, lt-ltb 1024 _ (too-many (settings-in (b ++ r)) k (length (samples-in (b ++ r))) n))
+        rw (half-is, k, lt-ltb 1024 _ (too-many (input-settings (b ++ r)) k (length (samples-in (b ++ r))) n))
 
     -- all bytes at hand
-    pub no-all : settings-no (settings-in b) ≡ 0 → more ≤ 0 → first-no (eqb ((length b - 11 + more % 2) % 2) 1) 0 (ltb 1024 (F (settings-in b) ((length b - 11) / 2))) ≡ program-no (b ++ r)
+    pub no-all : settings-no (input-settings b) ≡ 0 → more ≤ 0 → first-program-refusal (eqb ((length b - 11 + more % 2) % 2) 1) 0 (ltb 1024 (F (input-settings b) ((length b - 11) / 2))) ≡ program-no (b ++ r)
     unfolding program-no
     no-all e h =
         let k = sym settings-is ∙ e in
@@ -119,8 +118,8 @@ module _ (b r : List ℕ) (more : ℕ) (rest : length r ≡ more) (full : 0 < mo
         rw (half-is, k, ← settings-front b r enough, n)
 
 -- no refusal: none of the three
-first-none : (half : Bool) (wrong : ℕ) (long : Bool) → 0 ≡ first-no half wrong long → (half ≡ false) × (wrong ≡ 0) × (long ≡ false)
-unfolding first-no
+first-none : (half : Bool) (wrong : ℕ) (long : Bool) → 0 ≡ first-program-refusal half wrong long → (half ≡ false) × (wrong ≡ 0) × (long ≡ false)
+unfolding first-program-refusal
 first-none true wrong long e = absurd (omega arith)
 first-none false wrong long e = by (eqb wrong 0) long refl e
   where
@@ -140,8 +139,8 @@ not-half b e = ltb-false (length b) 11 (or-left _ _ e)
 -- an input that is not refused
 pub record Ready (b : List ℕ) : Type 0 where
   pub enough : 11 ≤ length b
-  pub known : settings-no (settings-in b) ≡ 0
-  pub few : F (settings-in b) (length (samples-in b)) ≤ 1024
+  pub known : settings-no (input-settings b) ≡ 0
+  pub few : F (input-settings b) (length (samples-in b)) ≤ 1024
 
 pub ready : (b : List ℕ) → 0 ≡ program-no b → Ready b
 unfolding program-no
@@ -155,11 +154,11 @@ none-more b [] h q = refl
 none-more b (x ∷ r) h q =
     let l : 656651 ≤ length b = h (omega arith) in
     let n : 328320 ≤ length (samples-in (b ++ (x ∷ r))) = rw (samples-count (b ++ (x ∷ r)), length-append) (omega arith) in
-    absurd (omega (arith, too-many (settings-in (b ++ (x ∷ r))) (q .known) _ n, q .few))
+    absurd (omega (arith, too-many (input-settings (b ++ (x ∷ r))) (q .known) _ n, q .few))
 
 -- the number is small
-first-small : (half : Bool) (wrong : ℕ) (long : Bool) → wrong ≤ 3 → first-no half wrong long ≤ 10
-unfolding first-no
+first-small : (half : Bool) (wrong : ℕ) (long : Bool) → wrong ≤ 3 → first-program-refusal half wrong long ≤ 10
+unfolding first-program-refusal
 first-small half wrong long h = by half (eqb wrong 0) long
   where
     by : (x y z : Bool) → cond x 10 (cond y (cond z 6 0) wrong) ≤ 10
@@ -170,7 +169,7 @@ first-small half wrong long h = by half (eqb wrong 0) long
 
 pub no-small : (b : List ℕ) → program-no b ≤ 10
 unfolding program-no
-no-small b = first-small _ _ _ (settings-small (settings-in b))
+no-small b = first-small _ _ _ (settings-small (input-settings b))
 
 -- what holds of an input with any bytes after those at hand: where it is not refused, there are none
 pub at-hand : (b : List ℕ) (more n : ℕ) → (0 < more → 656651 ≤ length b) → ((r : List ℕ) → length r ≡ more → n ≡ program-no (b ++ r)) → n ≡ 0 → (more ≡ 0) × Ready b
@@ -199,20 +198,20 @@ pub text-refused : (b : List ℕ) (n : ℕ) → n ≡ program-no b → (n ≡ 0 
 unfolding track-text
 text-refused b n e h = rw (← e, ne-eqb n 0 h)
 
-pub text-report : (b : List ℕ) → program-no b ≡ 0 → report (settings-in b) (samples-in b) ≡ track-text b
+pub text-report : (b : List ℕ) → program-no b ≡ 0 → track-report (input-settings b) (samples-in b) ≡ track-text b
 unfolding track-text
 text-report b e = rw (eq-eqb (program-no b) 0 e)
 
 -- ---- the whole outcome: a text that is laid over the front of `out`
-module _ (b text out : List ℕ) (x t : List ℤ) {len : ℕ} {after : List ℕ} (count : len ≡ length text) (over : after ≡ headed text out) where
+module _ (b text out : List ℕ) (x t : List ℤ) {len : ℕ} {after : List ℕ} (count : len ≡ length text) (over : after ≡ overwritten text out) where
   -- a refusal leaves samples and table
-  pub answer-refused : (n : ℕ) → n ≡ program-no b → (n ≡ 0 → ⊥) → printed len after x t ≡ answered b text out x t
-  unfolding answered samples-after table-after
-  answer-refused n e h = rw (← e, ne-eqb n 0 h) (λ i. printed (count i) (over i) x t)
+  pub answer-refused : (n : ℕ) → n ≡ program-no b → (n ≡ 0 → ⊥) → track-printed len after x t ≡ answered b text out x t
+  unfolding answered samples-after track-table-after
+  answer-refused n e h = rw (← e, ne-eqb n 0 h) (λ i. track-printed (count i) (over i) x t)
 
-  pub answer-taken : program-no b ≡ 0 → {y u : List ℤ} → y ≡ headed (samples-in b) x → u ≡ tableOf (settings-in b) t (samples-in b) → printed len after y u ≡ answered b text out x t
-  unfolding answered samples-after table-after
-  answer-taken e p q = rw (eq-eqb (program-no b) 0 e) (λ i. printed (count i) (over i) (p i) (q i))
+  pub answer-taken : program-no b ≡ 0 → {y u : List ℤ} → y ≡ overwritten (samples-in b) x → u ≡ paper-table (input-settings b) t (samples-in b) → track-printed len after y u ≡ answered b text out x t
+  unfolding answered samples-after track-table-after
+  answer-taken e p q = rw (eq-eqb (program-no b) 0 e) (λ i. track-printed (count i) (over i) (p i) (q i))
 
 -- ---- the rows of a fresh track
 
@@ -222,30 +221,30 @@ same false = refl
 
 module _ (s : Settings) (t x : List ℤ) (e : settings-no s ≡ 0) (few : F s (length x) ≤ 1024) (room : 8192 ≤ length t) where
   -- a fresh track takes up to 1,024 frames
-  taken : noOf (freshOf s) t x ≡ 0
-  unfolding freshOf refusalOf
+  taken : delivery-no (fresh-track s) t x ≡ 0
+  unfolding fresh-track delivery-refusal
   taken =
-      let a = accepted s e in
-      let f : F s (length x) ≤ length t / 8 = omega arith in
+      let a = accepted-settings s e in
+      let f : F s (length x) ≤ length t / row-size = omega arith in
       let c : F s (length x) ≤ 4096 = omega arith in
       let p : 0 < frame-length s = omega (arith, a .some, a .within) in
-      rw (eq-eqb (settings-no s) 0 e, zero-add (length x), zero-add (F s (length x)), le-ltb 4096 (F s (length x)) c, lt-leb (frame-length s) 0 p, le-ltb (length t / 8) (F s (length x)) f)
+      rw (eq-eqb (settings-no s) 0 e, zero-add (length x), zero-add (F s (length x)), le-ltb 4096 (F s (length x)) c, lt-leb (frame-length s) 0 p, le-ltb (length t / row-size) (F s (length x)) f)
       (same (ltb 0 (F s (length x))))
 
-  pub tracked : (d : Outcome) → d ≡ deliverOf (startOf s .track) t x → Tracked s x t (d .delivered .track .frames) (d .table)
-  unfolding startOf freshOf acceptedOf pendingOf tableOf
+  pub tracked : (d : DeliveryOutcome) → d ≡ deliver-call (start-call s .track) t x → Tracked s x t (d .delivered .track .frames) (d .table)
+  unfolding start-call fresh-track accepted-delivery pending paper-table
   tracked d g =
       let k = F s (0 + length x) in
-      let o = g ∙ accepts (freshOf s) t x taken in
+      let o = g ∙ accepts (fresh-track s) t x taken in
       let m : k ≡ F s (length x) = ap (F s) (zero-add (length x)) in
       let n : 0 + k ≡ F s (length x) = zero-add k ∙ m in
       record {
-        count = ap (λ (v : Outcome). v .delivered .track .frames) o ∙ n;
-        rows = ap (λ (v : Outcome). v .table) o ∙ (λ i. rowsOf s x nothing (m i) ++ drop (n i * 8) t);
+        count = ap (λ (v : DeliveryOutcome). v .delivered .track .frames) o ∙ n;
+        rows = ap (λ (v : DeliveryOutcome). v .table) o ∙ (λ i. paper-numbers s x no-previous (m i) ++ drop (n i * row-size) t);
       }
 
 -- row i of the table that is left
-pub tracked-row : (s : Settings) (x t : List ℤ) (f : ℕ) (u : List ℤ) → Tracked s x t f u → (i : ℕ) → i < f → row-at u i ≡ rowAt s x nothing i
-unfolding tableOf
+pub tracked-row : (s : Settings) (x t : List ℤ) (f : ℕ) (u : List ℤ) → Tracked s x t f u → (i : ℕ) → i < f → row-at u i ≡ paper-row s x no-previous i
+unfolding paper-table
 tracked-row s x t f u g i h =
-    ap (λ (l : List ℤ). row-at l i) (g .rows) ∙ row-read _ i _ (row-in s x nothing (F s (length x)) i (drop (F s (length x) * 8) t) (omega (arith, g .count)))
+    ap (λ (l : List ℤ). row-at l i) (g .rows) ∙ row-read _ i _ (row-in s x no-previous (F s (length x)) i (drop (F s (length x) * row-size) t) (omega (arith, g .count)))

@@ -5,9 +5,9 @@ ghost use Prim.Native.Nat.{ℕ, _+_, _<_, _≤_};
 ghost use lib.Dec.{ltb};
 ghost use lib.ListN.{length};
 ghost use Rattle.pitch_settings.specs.Settings.{settings-no};
-ghost use Rattle.pitch_track.specs.Paper.{F, tableOf};
+ghost use Rattle.pitch_track.specs.Paper.{F, paper-table};
 ghost use Rattle.pitch_text.specs.Text.{Put};
-ghost use Rattle.track_text.specs.Program.{first-no, program-no, samples-left, head-text, report, printed, printedOf, Tracked};
+ghost use Rattle.track_text.specs.Program.{first-program-refusal, program-no, samples-left, track-head, track-report, track-printed, track-text-call, Tracked};
 use pitch_input::load_samples;
 use pitch_input::settings_in;
 use pitch_settings::Settings;
@@ -21,7 +21,7 @@ use pitch_track::Track;
 
 // The order of the refusals: `wrong` is the settings' number.
 fn first_no(half: bool, wrong: usize, long: bool) -> usize
-    ensures { λ r. ⌜ r ≡ first-no half wrong long ⌝ }
+    ensures { λ r. ⌜ r ≡ first-program-refusal half wrong long ⌝ }
 {
     if half {
         return 10;
@@ -91,7 +91,7 @@ fn track_rows(s: Settings, x: &[i16], table: &mut [i32]) -> usize
 // Frame count and samples left.
 fn put_head(out: &mut [u8], frames: u32, left: u32) -> usize
     requires { ⌜ 22 ≤ length (now out) ⌝ }
-    ensures { λ r. ⌜ Put (now (out .entry)) 0 (head-text frames left) r (now (out .exit)) × (r ≤ 22) ⌝ }
+    ensures { λ r. ⌜ Put (now (out .entry)) 0 (track-head frames left) r (now (out .exit)) × (r ≤ 22) ⌝ }
 {
     let p = put_digits(out, 0, frames);
     out[p] = b' ';
@@ -103,7 +103,7 @@ fn put_head(out: &mut [u8], frames: u32, left: u32) -> usize
 // The text for the samples x, and its rows in the table.
 fn put_report(s: Settings, x: &[i16], table: &mut [i32], out: &mut [u8]) -> usize
     requires { ⌜ (settings-no s ≡ 0) × (F s (length (now x)) ≤ 1024) × (8192 ≤ length (now table)) × (99350 ≤ length (now out)) ⌝ }
-    ensures { λ r. ⌜ Put (now (out .entry)) 0 (report s (now (x .entry))) r (now (out .exit)) × (r ≤ 99350) × (now (table .exit) ≡ tableOf s (now (table .entry)) (now (x .entry))) ⌝ }
+    ensures { λ r. ⌜ Put (now (out .entry)) 0 (track-report s (now (x .entry))) r (now (out .exit)) × (r ≤ 99350) × (now (table .exit) ≡ paper-table s (now (table .entry)) (now (x .entry))) ⌝ }
 {
     let frames = track_rows(s, x, table);
     let left = samples_left(s, x.len(), frames);
@@ -121,7 +121,7 @@ pub fn track_text(
     out: &mut [u8],
 ) -> usize
     requires { ⌜ (0 < more → 656651 ≤ length (now input)) × (328320 ≤ length (now samples)) × (8192 ≤ length (now table)) × (99350 ≤ length (now out)) ⌝ }
-    ensures { λ r. ⌜ ((rest : List ℕ) → length rest ≡ more → printed r (now (out .exit)) (now (samples .exit)) (now (table .exit)) ≡ printedOf (now (input .entry) ++ rest) (now (out .entry)) (now (samples .entry)) (now (table .entry))) ⌝ }
+    ensures { λ r. ⌜ ((rest : List ℕ) → length rest ≡ more → track-printed r (now (out .exit)) (now (samples .exit)) (now (table .exit)) ≡ track-text-call (now (input .entry) ++ rest) (now (out .entry)) (now (samples .entry)) (now (table .entry))) ⌝ }
     ensures { λ r. ⌜ r ≤ 99350 ⌝ }
 {
     let no = program_no(input, more);

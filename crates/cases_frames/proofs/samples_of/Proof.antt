@@ -2,7 +2,7 @@
 use mathlib.Core.Path.{_≡_}
 use native.Mathlib.Omega.{arith}
 use Rattle.pitch_settings.specs.Settings.{settings-no}
-use Rattle.pitch_settings.specs.SettingsLaws.{accepted}
+use Rattle.pitch_settings.specs.SettingsLaws.{accepted-settings}
 use borrow.Author.Needs.{needs}
 use Rattle.cases_frames.proofs.samples_of.Statement.{statement}
 use Rattle.cases_frames.proofs.samples_of.Tie as tie
@@ -20,7 +20,7 @@ returns-2 : tie.Need-returns-2
 returns-2 c =
     let s = c .before .before .before .args .s in
     let h : settings-no s ≡ 0 = search needs in
-    omega (arith, accepted s h .small)
+    omega (arith, accepted-settings s h .small)
 
 pub samples-of-spec : {M : Type 1} → statement M
 samples-of-spec = tie.close (tie.spec settings-no-requires returns frame-length-requires returns-2)

@@ -3,8 +3,8 @@ use mathlib.Core.Path.{ap}
 use native.Mathlib.Omega.{arith}
 use lib.IntN.{pos}
 use mir.Syntax.{w16, w32}
-use Rattle.zint.specs.Read.{r-nat, r-as, r-call1}
-use Rattle.zint.specs.Rules.{zneeds}
+use Rattle.zint.specs.ReadLaws.{r-nat, r-as, r-call1}
+use Rattle.zint.specs.RuleLaws.{zneeds}
 use Rattle.zint.specs.Wrap.{wrap}
 use Rattle.cases_io.specs.Little.{u16-at, i16-at}
 use Rattle.cases_io.proofs.i16_at.Statement.{statement}

@@ -5,9 +5,10 @@ use native.Mathlib.Omega.{arith}
 use lib.IntN.{ℤ, pos}
 use lib.ListN.{length, length-set}
 use mir.Syntax.{w16}
-use Rattle.zint.specs.Read.{r-got}
-use Rattle.zint.specs.Rules.{zneeds}
-use Rattle.lists.specs.Fill.{filled, filled-none, filled-turn}
+use Rattle.zint.specs.ReadLaws.{r-got}
+use Rattle.zint.specs.RuleLaws.{zneeds}
+use Rattle.lists.specs.Fill.{filled}
+use Rattle.lists.specs.FillLaws.{filled-none, filled-turn}
 use Rattle.cases_io.specs.Little.{i16-at}
 use Rattle.cases_io.specs.LittleLaws.{i16-past, held}
 use Rattle.cases_io.proofs.load_i16s.Statement.{statement}

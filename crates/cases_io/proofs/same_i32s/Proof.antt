@@ -7,8 +7,8 @@ use lib.IntN.{pos}
 use lib.ListN.{length, getD}
 use mir.Syntax.{w32}
 use mir.Val.{toZ, ofZ}
-use Rattle.zint.specs.Read.{r-got, r-elem}
-use Rattle.zint.specs.Rules.{zneeds}
+use Rattle.zint.specs.ReadLaws.{r-got, r-elem}
+use Rattle.zint.specs.RuleLaws.{zneeds}
 use Rattle.cases_io.specs.Little.{i32-at, agree}
 use Rattle.cases_io.specs.LittleLaws.{i32-past, held, agree-none, agree-next, agree-not}
 use Rattle.cases_io.proofs.same_i32s.Statement.{statement}

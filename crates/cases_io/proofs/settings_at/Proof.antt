@@ -6,7 +6,7 @@ use borrow.Author.Needs.{needs}
 use lib.IntN.{pos}
 use lib.ListN.{length}
 use mir.Syntax.{w32}
-use Rattle.zint.specs.Read.{r-got}
+use Rattle.zint.specs.ReadLaws.{r-got}
 use Rattle.cases_io.specs.Little.{u64-at, i32-at}
 use Rattle.cases_io.specs.LittleLaws.{u64-past, i32-past, held}
 use Rattle.cases_io.proofs.settings_at.Statement.{statement}

@@ -1,5 +1,5 @@
 -- `cases_words::div32_agrees` meets what it calls.
-use Rattle.zint.specs.Rules.{zneeds}
+use Rattle.zint.specs.RuleLaws.{zneeds}
 use Rattle.cases_words.proofs.div32_agrees.Statement.{statement}
 use Rattle.cases_words.proofs.div32_agrees.Tie as tie
 

@@ -1,6 +1,6 @@
 -- `cases_words::div32_varq_agrees` meets what it calls.
-use Rattle.zint.specs.Rules.{zneeds}
-use Rattle.zint.specs.Tests.{lt-false, le-false}
+use Rattle.zint.specs.RuleLaws.{zneeds}
+use Rattle.zint.specs.TestLaws.{lt-false, le-false}
 use Rattle.cases_words.proofs.div32_varq_agrees.Statement.{statement}
 use Rattle.cases_words.proofs.div32_varq_agrees.Tie as tie
 

@@ -6,7 +6,7 @@ use lib.IntN.{ℤ, pos, negsuc}
 use lib.Signed.{quotZ}
 use mir.Syntax.{w32}
 use mir.Val.{SFits, toZ, ofZ}
-use Rattle.zint.specs.Read.{r-var}
+use Rattle.zint.specs.ReadLaws.{r-var}
 use Rattle.cases_words.specs.QuotientLaws.{quotient-fits, negated-fits}
 use Rattle.cases_words.proofs.divides.Statement.{statement}
 use Rattle.cases_words.proofs.divides.Tie as tie

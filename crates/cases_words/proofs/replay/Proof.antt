@@ -1,7 +1,7 @@
 -- `cases_words::replay` meets its contract.
 use Prim.Native.Nat.{_≤_, _-_}
 use lib.ListN.{length}
-use Rattle.zint.specs.Rules.{zneeds}
+use Rattle.zint.specs.RuleLaws.{zneeds}
 use Rattle.cases_words.proofs.replay.Statement.{statement}
 use Rattle.cases_words.proofs.replay.Tie as tie
 use Rattle.cases_words.proofs.replay.Reads as reads

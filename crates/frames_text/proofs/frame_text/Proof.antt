@@ -7,16 +7,16 @@ use native.Mathlib.Omega.{arith}
 use lib.ListN.{length, take, drop, length-append, length-drop}
 use lib.Seq.{length-take-le}
 use mir.Syntax.{w32}
-use Rattle.zint.specs.Read.{r-got}
-use Rattle.lists.specs.Push.{headed}
+use Rattle.zint.specs.ReadLaws.{r-got}
+use Rattle.lists.specs.Fill.{overwritten}
 use Rattle.pitch_settings.specs.declared.Settings.{Settings}
 use Rattle.pitch_settings.specs.Settings.{settings-no, frame-length}
-use Rattle.pitch_settings.specs.SettingsLaws.{accepted}
+use Rattle.pitch_settings.specs.SettingsLaws.{accepted-settings}
 use Rattle.pitch_table.specs.declared.Row.{Row}
 use Rattle.silk_pitch_analysis.specs.declared.RowAnswer.the-variants.{Analysed}
 use Rattle.silk_pitch_analysis.specs.Frame.{row-answer}
 use Rattle.silk_pitch_analysis.specs.FrameLaws.{row-whole, one-row, no-refusal}
-use Rattle.pitch_input.specs.Input.{settings-in, samples-from}
+use Rattle.pitch_input.specs.Input.{input-settings, samples-from}
 use Rattle.pitch_input.specs.InputLaws.{loaded, loaded-over, length-samples}
 use Rattle.pitch_text.specs.Text.{row-text}
 use Rattle.pitch_text.specs.TextLaws.{put-as, put-count, put-over}
@@ -33,11 +33,11 @@ known : (c : tie.After-settings-in) → settings-no (c .settings-in .result) ≡
 known c = ap settings-no (c .settings-in .ensures) ∙ all (c .before) .known
 
 module _ (c : tie.After-frame-length) where
-  size : c .frame-length .result ≡ frame-length (settings-in (c .before .before .before .before .before .before .args .bytes .now))
+  size : c .frame-length .result ≡ frame-length (input-settings (c .before .before .before .before .before .before .args .bytes .now))
   size = c .frame-length .ensures ∙ ap frame-length (c .before .settings-in .ensures)
 
   room : c .frame-length .result ≤ length (c .before .before .before .before .before .before .args .samples .now)
-  room = omega (arith, c .frame-length .ensures, accepted _ (known (c .before)) .small, c .before .before .before .before .before .before .pre .0)
+  room = omega (arith, c .frame-length .ensures, accepted-settings _ (known (c .before)) .small, c .before .before .before .before .before .before .pre .0)
 
   whole-frame : 19 + 2 * c .frame-length .result ≤ length (c .before .before .before .before .before .before .args .bytes .now)
   unfolding record-size
@@ -51,11 +51,11 @@ module _ (c : tie.After-load-samples) where
   x-is : take (c .before .before .frame-length .result) (c .load-samples .last .1 .1 .0 ++ drop (c .before .before .frame-length .result) (c .before .before .before .before .before .before .before .before .args .samples .now)) ≡ samples-from (c .before .before .before .before .before .before .before .before .args .bytes .now) 19 (c .before .before .frame-length .result)
   x-is = loaded (c .before .before .before .before .before .before .before .before .args .bytes .now) 19 (c .before .before .frame-length .result) (c .before .before .before .before .before .before .before .before .args .samples .now) (c .load-samples .last .1 .1 .0) (room (c .before .before)) (c .load-samples .ensures)
 
-  whole-is : c .load-samples .last .1 .1 .0 ++ drop (c .before .before .frame-length .result) (c .before .before .before .before .before .before .before .before .args .samples .now) ≡ headed (record-samples (c .before .before .before .before .before .before .before .before .args .bytes .now)) (c .before .before .before .before .before .before .before .before .args .samples .now)
+  whole-is : c .load-samples .last .1 .1 .0 ++ drop (c .before .before .frame-length .result) (c .before .before .before .before .before .before .before .before .args .samples .now) ≡ overwritten (record-samples (c .before .before .before .before .before .before .before .before .args .bytes .now)) (c .before .before .before .before .before .before .before .before .args .samples .now)
   unfolding record-samples
   whole-is =
       loaded-over (c .before .before .before .before .before .before .before .before .args .bytes .now) 19 (c .before .before .frame-length .result) (c .before .before .before .before .before .before .before .before .args .samples .now) (c .load-samples .last .1 .1 .0) (room (c .before .before)) (c .load-samples .ensures)
-      ∙ ap (λ (n : ℕ). headed (samples-from (c .before .before .before .before .before .before .before .before .args .bytes .now) 19 n) (c .before .before .before .before .before .before .before .before .args .samples .now)) (size (c .before .before))
+      ∙ ap (λ (n : ℕ). overwritten (samples-from (c .before .before .before .before .before .before .before .before .args .bytes .now) 19 n) (c .before .before .before .before .before .before .before .before .args .samples .now)) (size (c .before .before))
 
 record-no-requires : tie.Need-record-no-requires
 record-no-requires c κs = tt
@@ -125,7 +125,7 @@ module _ (c : tie.After-frame-row) where
       let x = x-is sized ∙ ap (samples-from (start .args .bytes .now) 19) (size (sized .before .before)) in
       c .frame-row .ensures .0
       ∙ (λ i. row-answer (t i) (x i) (lag i) (correlation i))
-      ∙ row-whole (settings-in (start .args .bytes .now)) (samples-from (start .args .bytes .now) 19 (frame-length (settings-in (start .args .bytes .now)))) _ _ (all (sized .before .before .before .before) .known) (length-samples _ 19 _)
+      ∙ row-whole (input-settings (start .args .bytes .now)) (samples-from (start .args .bytes .now) 19 (frame-length (input-settings (start .args .bytes .now)))) _ _ (all (sized .before .before .before .before) .known) (length-samples _ 19 _)
 
 -- the frame is never refused
 never : (c : tie.After-enum-told) → ⊥
@@ -140,7 +140,7 @@ returns-2 c = absurd (never c)
 put-row-text-requires : tie.Need-put-row-text-requires
 put-row-text-requires c κs =
     let d = sized (c .before .before .before .before) in
-    (accepted _ (known (d .before .before .before)) .nb-high, start (c .before .before .before .before) .pre .1)
+    (accepted-settings _ (known (d .before .before .before)) .nb-high, start (c .before .before .before .before) .pre .1)
 
 same-length-3 : tie.Need-same-length-3
 same-length-3 c =

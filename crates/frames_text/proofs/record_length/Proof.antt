@@ -2,7 +2,7 @@
 use mathlib.Core.Path.{_≡_, sym, ap, _∙_}
 use native.Mathlib.Omega.{arith}
 use Rattle.pitch_settings.specs.Settings.{settings-no}
-use Rattle.pitch_input.specs.Input.{settings-in}
+use Rattle.pitch_input.specs.Input.{input-settings}
 use Rattle.frames_text.specs.Frames.{record-size}
 use Rattle.frames_text.specs.FramesLaws.{length-head, length-wrong, length-whole}
 use borrow.Author.Needs.{needs}
@@ -10,14 +10,14 @@ use Rattle.frames_text.proofs.record_length.Statement.{statement}
 use Rattle.frames_text.proofs.record_length.Tie as tie
 
 -- the settings' number, and that it is 0
-number : (c : tie.After-settings-no) → c .settings-no .result ≡ settings-no (settings-in (c .before .before .before .before .args .head .now))
+number : (c : tie.After-settings-no) → c .settings-no .result ≡ settings-no (input-settings (c .before .before .before .before .args .head .now))
 number c = c .settings-no .ensures ∙ ap settings-no (c .before .settings-in .ensures)
 
-known : (c : tie.Else2) → settings-no (settings-in (c .before .before .before .before .before .args .head .now)) ≡ 0
+known : (c : tie.Else2) → settings-no (input-settings (c .before .before .before .before .before .args .head .now)) ≡ 0
 known c = sym (number (c .before)) ∙ c .if2 .left
 
 -- the record's size
-size : (c : tie.After-record-size) → c .record-size .result ≡ record-size (settings-in (c .before .before .before .before .before .before .args .head .now))
+size : (c : tie.After-record-size) → c .record-size .result ≡ record-size (input-settings (c .before .before .before .before .before .before .args .head .now))
 size c = c .record-size .ensures .0 ∙ ap record-size (c .before .before .before .settings-in .ensures)
 
 returns : tie.Need-returns

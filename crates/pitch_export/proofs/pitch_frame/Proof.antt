@@ -4,10 +4,10 @@ use mathlib.Core.List.{List}
 use borrow.Author.Needs.{needs}
 use lib.IntN.{ℤ}
 use Rattle.pitch_settings.specs.declared.Settings.{Settings}
-use Rattle.zint.specs.Read.{r-var}
+use Rattle.zint.specs.ReadLaws.{r-var}
 use Rattle.silk_pitch_analysis.specs.declared.Answer.{Answer}
-use Rattle.silk_pitch_analysis.specs.Frame.{outcome, frameOf}
-use Rattle.pitch_export.specs.Export.{settings, numbers, exported, answered, exportOf}
+use Rattle.silk_pitch_analysis.specs.Frame.{frame-outcome, frame-call}
+use Rattle.pitch_export.specs.Export.{settings, numbers, exported, answered, export-call}
 use Rattle.pitch_export.specs.ExportLaws.{export-is}
 use Rattle.pitch_export.proofs.pitch_frame.Statement.{statement}
 use Rattle.pitch_export.proofs.pitch_frame.Tie as tie
@@ -26,14 +26,14 @@ module _ (c : tie.After-silk-pitch-analysis-core) where
   abbrev old : List ℤ
   old = numbers (start .args .verdict .now) (start .args .index .now) (start .args .contour .now) (start .args .correlation .now)
 
-  said : outcome (c .silk-pitch-analysis-core .result) at-exit
-      ≡ frameOf (s (start .args .thres1) (start .args .thres2)) (start .args .frame .now) (start .args .pitch-out .now) (start .args .prev-lag) (start .args .prev-corr)
+  said : frame-outcome (c .silk-pitch-analysis-core .result) at-exit
+      ≡ frame-call (s (start .args .thres1) (start .args .thres2)) (start .args .frame .now) (start .args .pitch-out .now) (start .args .prev-lag) (start .args .prev-corr)
   said =
       c .silk-pitch-analysis-core .ensures .0
-      ∙ (λ i. frameOf (s (r-var (start .fits .thres1) .val i) (r-var (start .fits .thres2) .val i)) (start .args .frame .now) (start .args .pitch-out .now) (r-var (start .fits .prev-lag) .val i) (r-var (start .fits .prev-corr) .val i))
+      ∙ (λ i. frame-call (s (r-var (start .fits .thres1) .val i) (r-var (start .fits .thres2) .val i)) (start .args .frame .now) (start .args .pitch-out .now) (r-var (start .fits .prev-lag) .val i) (r-var (start .fits .prev-corr) .val i))
 
   told : answered (c .silk-pitch-analysis-core .result) at-exit old
-      ≡ exportOf (s (start .args .thres1) (start .args .thres2)) (start .args .frame .now) (start .args .pitch-out .now) (start .args .prev-lag) (start .args .prev-corr) old
+      ≡ export-call (s (start .args .thres1) (start .args .thres2)) (start .args .frame .now) (start .args .pitch-out .now) (start .args .prev-lag) (start .args .prev-corr) old
   told = export-is _ _ _ _ _ old (c .silk-pitch-analysis-core .result) at-exit said
 
 silk-pitch-analysis-core-requires : tie.Need-silk-pitch-analysis-core-requires

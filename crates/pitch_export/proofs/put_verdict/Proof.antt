@@ -3,7 +3,7 @@ use mathlib.Core.Path.{_≡_, sym, ap, _∙_}
 use lib.IntN.{pos}
 use mir.Syntax.{w32}
 use mir.Val.{toZ, ofZ}
-use Rattle.zint.specs.Rules.{zneeds}
+use Rattle.zint.specs.RuleLaws.{zneeds}
 use Rattle.silk_pitch_analysis.specs.Frame.{verdict-numbers}
 use Rattle.pitch_export.specs.Export.{numbers}
 use Rattle.pitch_export.proofs.put_verdict.Statement.{statement}

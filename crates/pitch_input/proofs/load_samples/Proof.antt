@@ -4,8 +4,9 @@ use Prim.Native.Nat.{ℕ, _+_, _-_, _*_, _≤_}
 use native.Mathlib.Omega.{arith}
 use lib.ListN.{length, length-set}
 use mir.Syntax.{w16}
-use Rattle.zint.specs.Read.{r-got}
-use Rattle.lists.specs.Fill.{filled, filled-none, filled-turn}
+use Rattle.zint.specs.ReadLaws.{r-got}
+use Rattle.lists.specs.Fill.{filled}
+use Rattle.lists.specs.FillLaws.{filled-none, filled-turn}
 use Rattle.pitch_input.specs.Input.{sample-at, samples-from}
 use Rattle.pitch_input.specs.InputLaws.{samples-filled}
 use borrow.Author.Needs.{needs}

@@ -3,7 +3,7 @@ use mathlib.Core.Path.{ap}
 use native.Mathlib.Omega.{arith}
 use lib.IntN.{pos}
 use mir.Syntax.{w16, w32}
-use Rattle.zint.specs.Read.{r-nat, r-as, r-call1}
+use Rattle.zint.specs.ReadLaws.{r-nat, r-as, r-call1}
 use Rattle.zint.specs.Wrap.{wrap}
 use Rattle.pitch_input.specs.Input.{sample-at}
 use borrow.Author.Needs.{needs}

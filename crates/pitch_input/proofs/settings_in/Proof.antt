@@ -1,8 +1,8 @@
 -- `pitch_input::settings_in` meets its contract.
 use native.Mathlib.Omega.{arith}
 use mir.Syntax.{w32}
-use Rattle.zint.specs.Read.{r-got}
-use Rattle.pitch_input.specs.Input.{settings-in}
+use Rattle.zint.specs.ReadLaws.{r-got}
+use Rattle.pitch_input.specs.Input.{input-settings}
 use borrow.Author.Needs.{needs}
 use Rattle.pitch_input.proofs.settings_in.Statement.{statement}
 use Rattle.pitch_input.proofs.settings_in.Tie as tie
@@ -17,7 +17,7 @@ cast-t10 : tie.Need-cast-t10
 cast-t10 c = omega (arith, c .shared-slice-known4 .given 2)
 
 returns : tie.Need-returns
-unfolding settings-in
+unfolding input-settings
 returns c = rw (r-got w32 (c .before .i32-at .ok) (c .before .i32-at .ensures) .val, r-got w32 (c .i32-at2 .ok) (c .i32-at2 .ensures) .val)
 
 pub settings-in-spec : {M : Type 1} → statement M

@@ -1,6 +1,5 @@
 -- `pitch_settings::frame_length` meets its contract: with accepted settings nothing wraps.
---
-use Rattle.pitch_settings.specs.SettingsLaws.{accepted}
+use Rattle.pitch_settings.specs.SettingsLaws.{accepted-settings}
 use native.Mathlib.Omega.{arith}
 use mathlib.Core.Path.{refl}
 use Rattle.pitch_settings.specs.Settings.{frame-length}
@@ -8,14 +7,14 @@ use Rattle.pitch_settings.proofs.frame_length.Statement.{statement}
 use Rattle.pitch_settings.proofs.frame_length.Tie as tie
 
 mul-result : tie.Need-mul-result
-mul-result c = omega (arith, accepted _ (c .before .pre))
+mul-result c = omega (arith, accepted-settings _ (c .before .pre))
 
 add-result : tie.Need-add-result
-add-result c = omega (arith, accepted _ (c .before .pre))
+add-result c = omega (arith, accepted-settings _ (c .before .pre))
 
 mul-result-2 : tie.Need-mul-result-2
 unfolding frame-length
-mul-result-2 c = omega (arith, accepted _ (c .before .before .pre) .small)
+mul-result-2 c = omega (arith, accepted-settings _ (c .before .before .pre) .small)
 
 returns : tie.Need-returns
 unfolding frame-length

@@ -11,6 +11,7 @@ use Rattle.pitch_sheet.specs.declared.Got.the-variants.{Read, Refused as
 use Rattle.pitch_sheet.specs.Calls.{whole-rows, got}
 use Rattle.pitch_sheet.specs.CallsLaws.{page-sheet, read-malformed, read-short, read-done, read-answer, rows-in-length, front}
 use borrow.Author.Needs.{needs}
+use Rattle.pitch_table.specs.Row.{row-size}
 use Rattle.pitch_sheet.proofs.read_sheet.Statement.{statement}
 use Rattle.pitch_sheet.proofs.read_sheet.Tie as tie
 
@@ -50,7 +51,7 @@ returns-3 c =
     let h = c .before .before .before .before .before .head-of .ensures in
     let n : frames-in p ≤ whole-rows t = omega (arith, c .before .before .before .before .if2 .left, frames-are (c .before .before .before .before .before)) in
     let l = rows-in-length p in
-    let e : c .before .before .put-rows .last .1 .1 .0 ≡ numbers-of (rows-in p) ++ drop (frames-in p * 8) t =
+    let e : c .before .before .put-rows .last .1 .1 .0 ≡ numbers-of (rows-in p) ++ drop (frames-in p * row-size) t =
     c .before .before .put-rows .ensures ∙ front t (numbers-of (rows-in p)) (omega arith) ∙ ap (λ (k : ℕ). numbers-of (rows-in p) ++ drop k t) l in
     read-answer p t ((λ i. got (Read (h i .settings) (h i .frames)) (e i)) ∙ sym (read-done p t (sound (c .before .before .before .before .before .before)) n))
 

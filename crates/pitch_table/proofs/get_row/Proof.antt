@@ -4,8 +4,8 @@ use Prim.Native.Nat.{ℕ, _+_, _*_}
 use lib.IntN.{ℤ, pos}
 use lib.ListN.{getD}
 use mir.Syntax.{w32}
-use Rattle.zint.specs.Read.{r-elem}
-use Rattle.zint.specs.Rules.{zneeds}
+use Rattle.zint.specs.ReadLaws.{r-elem}
+use Rattle.zint.specs.RuleLaws.{zneeds}
 use Rattle.pitch_table.specs.Row.{row-at}
 use Rattle.pitch_table.proofs.get_row.Statement.{statement}
 use Rattle.pitch_table.proofs.get_row.Tie as tie

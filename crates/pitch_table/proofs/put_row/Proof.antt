@@ -1,8 +1,7 @@
 -- `pitch_table::put_row` meets its contract: eight stores are one `sets`.
---
 use native.Mathlib.Numerals.{towards-suc}
 use mir.Syntax.{w32}
-use Rattle.zint.specs.Read.{r-elem}
+use Rattle.zint.specs.ReadLaws.{r-elem}
 use native.Mathlib.Omega.{arith}
 use lib.ListN.{length-set}
 use borrow.Author.Needs.{needs}

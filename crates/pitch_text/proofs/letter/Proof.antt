@@ -4,7 +4,7 @@ use lib.IntN.{pos}
 use mir.Syntax.{w32}
 use mir.Val.{toZ, ofZ}
 use Rattle.zint.specs.EqualLaws.{eqZ-yes, eqZ-no}
-use Rattle.zint.specs.Read.{r-var}
+use Rattle.zint.specs.ReadLaws.{r-var}
 use Rattle.pitch_text.specs.Text.{letter-of}
 use Rattle.pitch_text.proofs.letter.Statement.{statement}
 use Rattle.pitch_text.proofs.letter.Tie as tie

@@ -8,7 +8,7 @@ use lib.IntN.{pos}
 use lib.ListN.{length, getD, take, length-set}
 use mir.Syntax.{w32}
 use mir.Val.{ofZ}
-use Rattle.zint.specs.Read.{Reads, r-elem}
+use Rattle.zint.specs.ReadLaws.{Reads, r-elem}
 use Rattle.pitch_text.specs.Decimal.{decimal}
 use Rattle.pitch_text.specs.Text.{Put, fields}
 use Rattle.pitch_text.specs.TextLaws.{put-then, put-as, put-byte, put-none, fields-next, decimal-few}

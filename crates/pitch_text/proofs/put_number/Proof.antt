@@ -6,7 +6,7 @@ use native.Mathlib.Omega.{arith}
 use lib.IntN.{pos, natAbs}
 use lib.ListN.{length, length-set}
 use borrow.Author.Needs.{needs}
-use Rattle.zint.specs.Read.{r-var, t-below}
+use Rattle.zint.specs.ReadLaws.{r-var, t-below}
 use Rattle.pitch_text.specs.Decimal.{digits, decimal}
 use Rattle.pitch_text.specs.TextLaws.{put-then, put-as, put-byte, decimal-minus, decimal-plus}
 use Rattle.pitch_text.proofs.put_number.Statement.{statement}

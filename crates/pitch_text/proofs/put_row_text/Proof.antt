@@ -5,7 +5,7 @@ use Prim.Native.Nat.{ℕ, _+_}
 use lib.IntN.{ℤ}
 use lib.ListN.{take}
 use mir.Syntax.{w32}
-use Rattle.zint.specs.Read.{r-elem}
+use Rattle.zint.specs.ReadLaws.{r-elem}
 use Rattle.pitch_text.specs.Text.{fields, letter-of, row-text}
 use native.Mathlib.Omega.{arith}
 use borrow.Author.Needs.{needs}

@@ -1,6 +1,6 @@
 -- `pitch_text::row_values` meets its contract.
 use mir.Syntax.{w32}
-use Rattle.zint.specs.Read.{r-elem}
+use Rattle.zint.specs.ReadLaws.{r-elem}
 use Rattle.pitch_text.specs.Text.{values-of}
 use Rattle.pitch_text.proofs.row_values.Statement.{statement}
 use Rattle.pitch_text.proofs.row_values.Tie as tie

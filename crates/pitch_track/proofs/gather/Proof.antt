@@ -1,5 +1,4 @@
 -- `pitch_track::gather` meets its contract. The invariant: j elements of the part are laid over the zeros.
---
 use native.Mathlib.Numerals.{add-one}
 use borrow.Author.Needs.{needs}
 use mathlib.Core.Path.{_≡_, refl, sym, ap, _∙_}
@@ -11,7 +10,7 @@ use lib.ListN.{length, getD, take, drop}
 use Rattle.pitch_track.specs.Step.{zeros, padded}
 use Rattle.pitch_track.proofs.Lists.{length-pending, length-zeros, lay-more, length-part, part-at, lay-all}
 use mir.Syntax.{w16}
-use Rattle.zint.specs.Read.{r-elem}
+use Rattle.zint.specs.ReadLaws.{r-elem}
 use Rattle.pitch_track.proofs.gather.Statement.{statement}
 use Rattle.pitch_track.proofs.gather.Tie as tie
 

@@ -1,10 +1,9 @@
 -- `pitch_track::is_long` meets its contract: counts that are over the limit by themselves, and else the frames in all samples.
---
 use mathlib.Core.Path.{_≡_, sym}
 use Prim.Native.Nat.{_+_}
 use native.Mathlib.Omega.{arith}
 use borrow.Author.Tests.{lt-ltb, le-ltb}
-use Rattle.pitch_settings.specs.SettingsLaws.{accepted}
+use Rattle.pitch_settings.specs.SettingsLaws.{accepted-settings}
 use Rattle.pitch_track.specs.Paper.{F}
 use Rattle.pitch_track.proofs.Frames.{many}
 use borrow.Author.Needs.{needs}
@@ -17,7 +16,7 @@ returns c = let a = c .before .args in sym (lt-ltb 4096 (a .frames + F (a .s) (a
 returns-2 : tie.Need-returns-2
 returns-2 c =
     let a = c .before .before .args in
-    let z = accepted _ (c .before .before .pre .0) in
+    let z = accepted-settings _ (c .before .before .pre .0) in
     sym (lt-ltb 4096 (a .frames + F (a .s) (a .count + a .d)) (omega (arith, many _ _ (z .some) (z .within) (a .count + a .d) 4096 (omega arith))))
 
 frame-length-requires : tie.Need-frame-length-requires
@@ -30,7 +29,7 @@ add-frames-in : tie.Need-add-frames-in
 add-frames-in c = search needs
 
 frames-in-requires : tie.Need-frames-in-requires
-frames-in-requires c κs = let z = accepted _ (c .before .before .before .before .pre .0) in omega arith
+frames-in-requires c κs = let z = accepted-settings _ (c .before .before .before .before .pre .0) in omega arith
 
 new : (c : tie.After-frames-in) → c .frames-in .result ≡ F (c .before .before .before .before .before .args .s) (c .before .before .before .before .before .args .count + c .before .before .before .before .before .args .d)
 new c = cc

@@ -1,12 +1,11 @@
 -- `pitch_track::put_rows` meets its contract. The invariant: k rows are written, and `q` is what the last of them left.
---
 use native.Mathlib.Numerals.{add-one}
 use native.Mathlib.Nat.{suc-mul}
 use lib.Seq.{sets}
 use Rattle.pitch_table.specs.declared.Row.{Row}
-use Rattle.pitch_table.specs.Row.{numbers}
+use Rattle.pitch_table.specs.Row.{row-size, numbers}
 use Rattle.silk_pitch_analysis.specs.FrameLaws.{one-row, no-refusal}
-use Rattle.pitch_track.specs.Paper.{after, rowAt}
+use Rattle.pitch_track.specs.Paper.{after, paper-row}
 use borrow.Author.Needs.{needs}
 use mathlib.Core.Path.{_≡_, refl, sym, ap, _∙_}
 use mathlib.Core.List.{List, _++_}
@@ -15,8 +14,8 @@ use native.Mathlib.Omega.{arith}
 use lib.IntN.{ℤ}
 use lib.ListN.{length, take, drop}
 use Rattle.pitch_settings.specs.Settings.{frame-length, hop-length}
-use Rattle.pitch_track.specs.Paper.{before, rowsOf}
-use Rattle.pitch_settings.specs.SettingsLaws.{accepted}
+use Rattle.pitch_track.specs.Paper.{previous, paper-numbers}
+use Rattle.pitch_settings.specs.SettingsLaws.{accepted-settings}
 use Rattle.pitch_track.proofs.Frames.{fits}
 use Rattle.pitch_track.proofs.Rows.{written, length-written, write-none, write-more, row-is, before-suc}
 use Rattle.pitch_track.proofs.put_rows.Statement.{statement}
@@ -26,7 +25,7 @@ abbrev Inv-loop : tie.InvT-loop
 Inv-loop s held count samples table₀ frames new hop q₀ from₀ k₀ table q from k =
     (k ≤ new)
     × (from ≡ k * hop-length s)
-    × (q ≡ before s (take count held ++ samples) q₀ k)
+    × (q ≡ previous s (take count held ++ samples) q₀ k)
     × (table ≡ written s (take count held ++ samples) q₀ table₀ frames k)
 
 abbrev μ-loop : tie.MeasureT-loop
@@ -36,14 +35,14 @@ abbrev μ-loop : tie.MeasureT-loop
 inside : (c : tie.In-loop Inv-loop μ-loop)
     → c .before .loop .k * hop-length (c .before .before .before .args .s) + frame-length (c .before .before .before .args .s) ≤ c .before .before .before .args .count + length (c .before .before .before .args .samples .now)
 inside c =
-    let z = accepted _ (c .before .before .before .pre .0) in
+    let z = accepted-settings _ (c .before .before .before .pre .0) in
     fits _ _ (z .some) (z .within) _ (c .before .loop .k) (omega arith)
 
 hop-length-requires : tie.Need-hop-length-requires Inv-loop μ-loop
 hop-length-requires c κs = c .pre .0
 
 loop-holds : tie.Need-loop-holds Inv-loop μ-loop
-unfolding before
+unfolding previous
 loop-holds c =
     let a = c .before .args in
     let x = take (a .count) (a .held .now) ++ a .samples .now in
@@ -76,13 +75,13 @@ module _ (c : tie.After-put-row-arg Inv-loop μ-loop) where
   abbrev k : ℕ
   k = here .before .loop .k
 
-  row : c .before .before .answer .given .0 .0 ≡ rowAt (start .args .s) pending (start .args .p) k
+  row : c .before .before .answer .given .0 .0 ≡ paper-row (start .args .s) pending (start .args .p) k
   row =
       let l = here .before .loop in
       one-row _ _ _ (c .before .before .answer .given .1) (c .before .before .before .before .window-row .ensures)
       ∙ row-is (start .args .s) pending (start .args .p) k (l .from) (l .q) (l .inv .1) (l .inv .2)
 
-  room : (start .args .frames + start .args .new) * 8 ≤ length (start .args .table .now)
+  room : (start .args .frames + start .args .new) * row-size ≤ length (start .args .table .now)
   room = start .pre .3 (omega (arith, here .before .loop .inv .0, here .loop-test .taken))
 
   size : length (here .before .loop .table) ≡ length (start .args .table .now)
@@ -99,7 +98,7 @@ put-row-requires c κs = omega (arith, size c, room c, here c .loop-test .taken)
 add-from : tie.Need-add-from Inv-loop μ-loop
 add-from c =
     let d = c .before .before .before in
-    let z = accepted _ (start d .pre .0) in
+    let z = accepted-settings _ (start d .pre .0) in
     omega (arith, inside (here d), here d .before .loop .inv .1, here d .before .before .hop-length .ensures, start d .good, start d .pre)
 
 add-k : tie.Need-add-k Inv-loop μ-loop
@@ -119,8 +118,8 @@ loop-again c =
       rw add-one (c .left-by .ensures ∙ ap (after (a .s)) (row d) ∙ before-suc (a .s) x (a .p) (l .k)),
       rw add-one
           (c .before .before .put-row .ensures
-          ∙ ap (λ (r : Row). sets (l .table) ((a .frames + l .k) * 8) (numbers r)) (row d)
-          ∙ ap (λ (t : List ℤ). sets t ((a .frames + l .k) * 8) (numbers (rowAt (a .s) x (a .p) (l .k)))) (l .inv .3)
+          ∙ ap (λ (r : Row). sets (l .table) ((a .frames + l .k) * row-size) (numbers r)) (row d)
+          ∙ ap (λ (t : List ℤ). sets t ((a .frames + l .k) * row-size) (numbers (paper-row (a .s) x (a .p) (l .k)))) (l .inv .3)
           ∙ write-more (a .s) x (a .p) (a .table .now) (a .frames) (l .k) (omega (arith, room d, here d .loop-test .taken))),
     )
 
@@ -135,7 +134,7 @@ returns-2 c =
     let a = c .before .before .before .args in
     let x = take (a .count) (a .held .now) ++ a .samples .now in
     let e : c .before .loop .k ≡ a .new = omega arith in
-    (c .before .loop .inv .2 ∙ ap (before (a .s) x (a .p)) e, c .before .loop .inv .3 ∙ ap (written (a .s) x (a .p) (a .table .now) (a .frames)) e)
+    (c .before .loop .inv .2 ∙ ap (previous (a .s) x (a .p)) e, c .before .loop .inv .3 ∙ ap (written (a .s) x (a .p) (a .table .now) (a .frames)) e)
 
 pub put-rows-spec : {M : Type 1} → statement M
 put-rows-spec =

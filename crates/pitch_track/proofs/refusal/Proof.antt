@@ -1,5 +1,4 @@
 -- `pitch_track::refusal` meets its contract: a law of `Refusals` for each `return`.
---
 use mathlib.Core.Path.{_≡_, sym, ap, _∙_}
 use mathlib.Core.Bool.{false}
 use Prim.Native.Nat.{ℕ, _+_, _*_, _/_, _≤_, _<_}
@@ -8,12 +7,13 @@ use native.Mathlib.Nat.{mul-le-mul-right}
 use borrow.Author.Tests.{ne-eqb, ltb-true, ltb-false}
 use lib.Dec.{ltb}
 use Rattle.pitch_settings.specs.Settings.{settings-no, frame-length, hop-length}
-use Rattle.pitch_settings.specs.SettingsLaws.{accepted}
+use Rattle.pitch_settings.specs.SettingsLaws.{accepted-settings}
 use Rattle.pitch_track.specs.Paper.{F}
-use Rattle.pitch_track.specs.Step.{first-no}
+use Rattle.pitch_track.specs.Step.{first-refusal}
 use Rattle.pitch_track.proofs.Frames.{rest}
 use Rattle.pitch_track.proofs.Refusals.{bad, six, later}
 use borrow.Author.Needs.{needs}
+use Rattle.pitch_table.specs.Row.{row-size}
 use Rattle.pitch_track.proofs.refusal.Statement.{statement}
 use Rattle.pitch_track.proofs.refusal.Tie as tie
 
@@ -49,7 +49,7 @@ module _ (c : tie.Else2) where
   few : start .args .count + start .args .d < 4097 * 640
   few =
       let a = start .args in
-      let z = accepted _ (ok (c .before .before)) in
+      let z = accepted-settings _ (ok (c .before .before)) in
       let m : F (a .s) (a .count + a .d) * hop-length (a .s) ≤ 4096 * hop-length (a .s) = mul-le-mul-right (hop-length (a .s)) (omega (arith, fits)) in
       omega (arith, rest (frame-length (a .s)) (hop-length (a .s)) (z .some) (z .within) (a .count + a .d), z .within, z .small)
 
@@ -63,7 +63,7 @@ add-frames-in : tie.Need-add-frames-in
 add-frames-in c = omega (arith, few (c .before .before))
 
 frames-in-requires : tie.Need-frames-in-requires
-frames-in-requires c κs = let z = accepted _ (ok (c .before .before .before .before)) in omega arith
+frames-in-requires c κs = let z = accepted-settings _ (ok (c .before .before .before .before)) in omega arith
 
 new : (c : tie.After-frames-in) → c .frames-in .result ≡ F (start (c .before .before .before) .args .s) (start (c .before .before .before) .args .count + start (c .before .before .before) .args .d)
 new c = cc
@@ -76,9 +76,9 @@ returns-3 c =
     let p = c .before .before in
     let q = p .before .before .before in
     let a = start q .args in
-    let short = c .before .is-short .ensures ∙ ap (λ (k : ℕ). ltb (a .numbers / 8) (a .frames + k)) (new p) in
+    let short = c .before .is-short .ensures ∙ ap (λ (k : ℕ). ltb (a .numbers / row-size) (a .frames + k)) (new p) in
     c .first-no3 .ensures
-    ∙ (λ i. first-no 0 false (q .before .before .is-full .ensures i) (ltb 0 (new p i)) (short i))
+    ∙ (λ i. first-refusal 0 false (q .before .before .is-full .ensures i) (ltb 0 (new p i)) (short i))
     ∙ sym (later (a .s) (a .frames) (a .count) (a .d) (a .numbers) (ok (q .before .before)) (fits q))
 
 pub refusal-spec : {M : Type 1} → statement M

@@ -1,11 +1,10 @@
 -- `pitch_track::sample_at` meets its contract: the test says on which side of the seam the place lies.
---
 use mathlib.Core.Path.{sym, _∙_}
 use Prim.Native.Nat.{_-_}
 use lib.IntN.{pos}
 use lib.ListN.{getD}
 use mir.Syntax.{w16}
-use Rattle.zint.specs.Read.{r-elem}
+use Rattle.zint.specs.ReadLaws.{r-elem}
 use Rattle.pitch_track.proofs.Lists.{at-held, at-new}
 use borrow.Author.Needs.{needs}
 use Rattle.pitch_track.proofs.sample_at.Statement.{statement}

@@ -1,5 +1,4 @@
 -- `pitch_track::window_row` meets its contract: the front of what was gathered is the frame.
---
 use mathlib.Core.Path.{_≡_, refl, sym, ap, _∙_}
 use mathlib.Core.List.{List, _++_}
 use Prim.Native.Nat.{ℕ, _+_, _≤_}
@@ -7,8 +6,8 @@ use native.Mathlib.Omega.{arith}
 use lib.IntN.{ℤ}
 use lib.ListN.{length, take, drop}
 use mir.Syntax.{w32}
-use Rattle.zint.specs.Read.{r-elem}
-use Rattle.pitch_settings.specs.SettingsLaws.{accepted}
+use Rattle.zint.specs.ReadLaws.{r-elem}
+use Rattle.pitch_settings.specs.SettingsLaws.{accepted-settings}
 use Rattle.pitch_settings.specs.Settings.{frame-length}
 use Rattle.silk_pitch_analysis.specs.Frame.{row-answer}
 use Rattle.silk_pitch_analysis.specs.FrameLaws.{row-whole}
@@ -40,12 +39,12 @@ module _ (g : tie.After-gather) where
   front = ap (take len) (g .gather .ensures) ∙ padded-front window len whole
 
 gather-requires : tie.Need-gather-requires
-gather-requires c κs = let z = accepted _ (c .before .pre .0) in omega arith
+gather-requires c κs = let z = accepted-settings _ (c .before .pre .0) in omega arith
 
 array-share-prefix-buffer : tie.Need-array-share-prefix-buffer
 array-share-prefix-buffer c =
     let g = c .before .before in
-    let z = accepted _ (start g .pre .0) in
+    let z = accepted-settings _ (start g .pre .0) in
     rw (g .gather .ensures) (omega (arith, whole g, length-padded (window g) (omega (arith, whole g))))
 
 slice-aggregate-frame-row : tie.Need-slice-aggregate-frame-row

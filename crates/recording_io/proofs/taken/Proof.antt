@@ -5,7 +5,7 @@ use lib.IntN.{ℤ}
 use lib.ListN.{length}
 use Rattle.recording_io.specs.Answered.{answered}
 use Rattle.recording_io.specs.AnsweredLaws.{answered-is}
-use Rattle.zint.specs.Read.{r-var}
+use Rattle.zint.specs.ReadLaws.{r-var}
 use Rattle.recording_io.proofs.taken.Statement.{statement}
 use Rattle.recording_io.proofs.taken.Tie as tie
 

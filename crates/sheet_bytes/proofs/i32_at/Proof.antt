@@ -5,7 +5,7 @@ use native.Mathlib.Omega.{arith}
 use lib.IntN.{pos}
 use mir.Syntax.{w32, w64}
 use Rattle.zint.specs.Wrap.{wrap}
-use Rattle.zint.specs.Read.{r-nat, r-call1}
+use Rattle.zint.specs.ReadLaws.{r-nat, r-call1}
 use Rattle.sheet_bytes.specs.Bytes.{signed-at}
 use borrow.Author.Needs.{needs}
 use Rattle.sheet_bytes.proofs.i32_at.Statement.{statement}

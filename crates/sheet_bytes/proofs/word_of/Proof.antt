@@ -3,10 +3,10 @@ use mathlib.Core.Path.{_≡_, ap, _∙_}
 use lib.IntN.{ℤ, pos, natAbs, _+ℤ_}
 use mir.Syntax.{w32, w64}
 use mir.Val.{SFits, toZ, ofZ}
-use Rattle.zint.specs.Diff.{v, n, _⊕_, sfits-by, sfits-up, sfits-dn, zarith}
-use Rattle.zint.specs.Tests.{lt-true, lt-false}
-use Rattle.zint.specs.Read.{r-var, r-lit, wide-64, r-add, f-add, t-below, as-unsigned}
-use Rattle.zint.specs.Rules.{zneeds}
+use Rattle.zint.specs.DiffLaws.{v, n, _⊕_, sfits-by, sfits-up, sfits-dn, zarith}
+use Rattle.zint.specs.TestLaws.{lt-true, lt-false}
+use Rattle.zint.specs.ReadLaws.{r-var, r-lit, wide-64, r-add, f-add, t-below, as-unsigned}
+use Rattle.zint.specs.RuleLaws.{zneeds}
 use Rattle.sheet_bytes.specs.Bytes.{word}
 use Rattle.sheet_bytes.specs.BytesLaws.{word-lt, word-pos, word-neg}
 use Rattle.sheet_bytes.proofs.word_of.Statement.{statement}

@@ -6,12 +6,12 @@ use lib.Dec.{leb}
 use lib.ListN.{length}
 use Rattle.pitch_settings.specs.Settings.{settings-no}
 use Rattle.sheet_bytes.specs.Bytes.{number-at}
-use Rattle.sheet_page.specs.Page.{settings-in, frames-in, head-good}
+use Rattle.sheet_page.specs.Page.{sheet-settings, frames-in, head-good}
 use borrow.Author.Needs.{needs}
 use Rattle.sheet_page.proofs.head_good.Statement.{statement}
 use Rattle.sheet_page.proofs.head_good.Tie as tie
 
-settled : (c : tie.After-settings-no) → c .settings-no .result ≡ settings-no (settings-in (c .before .before .before .before .before .before .args .page .now))
+settled : (c : tie.After-settings-no) → c .settings-no .result ≡ settings-no (sheet-settings (c .before .before .before .before .before .before .args .page .now))
 settled c = c .settings-no .ensures ∙ ap settings-no (c .before .settings-at .ensures)
 
 returns : tie.Need-returns
@@ -31,14 +31,14 @@ returns-3 : tie.Need-returns-3
 unfolding head-good
 returns-3 c =
     let p = c .before .before .before .before .before .before .before .args .page .now in
-    rw (le-leb 28 (length p) (c .before .before .before .before .before .if1 .left), eq-eqb (number-at 4 p 0) 5 (sym (c .before .before .before .before .u32-at .ensures) ∙ c .before .before .before .if2 .left), ne-eqb (settings-no (settings-in p)) 0 (λ e. c .if3 .taken (settled (c .before) ∙ e)))
+    rw (le-leb 28 (length p) (c .before .before .before .before .before .if1 .left), eq-eqb (number-at 4 p 0) 5 (sym (c .before .before .before .before .u32-at .ensures) ∙ c .before .before .before .if2 .left), ne-eqb (settings-no (sheet-settings p)) 0 (λ e. c .if3 .taken (settled (c .before) ∙ e)))
 
 returns-4 : tie.Need-returns-4
 unfolding head-good frames-in
 returns-4 c =
     let q = c .before in
     let p = q .before .before .before .before .before .before .before .args .page .now in
-    rw (le-leb 28 (length p) (q .before .before .before .before .before .if1 .left), eq-eqb (number-at 4 p 0) 5 (sym (q .before .before .before .before .u32-at .ensures) ∙ q .before .before .before .if2 .left), eq-eqb (settings-no (settings-in p)) 0 (sym (settled (q .before)) ∙ q .if3 .left))
+    rw (le-leb 28 (length p) (q .before .before .before .before .before .if1 .left), eq-eqb (number-at 4 p 0) 5 (sym (q .before .before .before .before .u32-at .ensures) ∙ q .before .before .before .if2 .left), eq-eqb (settings-no (sheet-settings p)) 0 (sym (settled (q .before)) ∙ q .if3 .left))
     (ap (λ (n : ℕ). leb n 4096) (c .u32-at2 .ensures))
 
 pub head-good-spec : {M : Type 1} → statement M

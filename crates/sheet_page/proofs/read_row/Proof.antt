@@ -1,7 +1,7 @@
 -- `sheet_page::read_row` meets its contract.
 use lib.ListN.{getD, length}
 use mir.Val.{toZ, ofZ}
-use Rattle.zint.specs.Read.{r-got}
+use Rattle.zint.specs.ReadLaws.{r-got}
 use Rattle.sheet_bytes.specs.Bytes.{number-at, signed-at}
 use mathlib.Core.Path.{_≡_, sym, ap, ap₂, _∙_}
 use lib.IntN.{ℤ, pos}

@@ -1,13 +1,13 @@
 -- `sheet_page::settings_at` meets its contract.
 use mir.Syntax.{w32}
-use Rattle.zint.specs.Read.{r-got}
-use Rattle.sheet_page.specs.Page.{settings-in}
+use Rattle.zint.specs.ReadLaws.{r-got}
+use Rattle.sheet_page.specs.Page.{sheet-settings}
 use borrow.Author.Needs.{needs}
 use Rattle.sheet_page.proofs.settings_at.Statement.{statement}
 use Rattle.sheet_page.proofs.settings_at.Tie as tie
 
 returns : tie.Need-returns
-unfolding settings-in
+unfolding sheet-settings
 returns c =
     let u = c .before .before .before .before .u32-at .ensures in
     let v = c .before .before .before .u32-at2 .ensures in

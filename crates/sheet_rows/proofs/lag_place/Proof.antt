@@ -3,8 +3,8 @@ use mathlib.Core.Path.{sym, ap₂, _∙_}
 use native.Mathlib.Omega.{arith}
 use lib.IntN.{ℤ, natAbs}
 use mir.Syntax.{w32, w64}
-use Rattle.zint.specs.Bound.{fits-abs}
-use Rattle.zint.specs.Read.{r-var, r-got, as-unsigned}
+use Rattle.zint.specs.BoundLaws.{fits-abs}
+use Rattle.zint.specs.ReadLaws.{r-var, r-got, as-unsigned}
 use Rattle.silk_tables.specs.Rebuild.{rebuilt}
 use Rattle.silk_tables.specs.CarriedLaws.{carried-means, contour-abs, coded}
 use Rattle.sheet_rows.specs.RowsLaws.{tables-accept, lag-in, lag-past}

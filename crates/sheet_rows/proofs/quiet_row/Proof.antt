@@ -1,5 +1,5 @@
 -- `sheet_rows::quiet_row` meets its contract.
-use Rattle.zint.specs.Read.{r-var}
+use Rattle.zint.specs.ReadLaws.{r-var}
 use Rattle.sheet_rows.specs.Rows.{quiet-row}
 use Rattle.sheet_rows.proofs.quiet_row.Statement.{statement}
 use Rattle.sheet_rows.proofs.quiet_row.Tie as tie

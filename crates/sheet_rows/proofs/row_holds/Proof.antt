@@ -1,7 +1,7 @@
 -- `sheet_rows::row_holds` meets its contract.
 use mathlib.Core.Path.{_≡_, sym, _∙_}
 use mir.Syntax.{w32}
-use Rattle.zint.specs.Read.{r-elem}
+use Rattle.zint.specs.ReadLaws.{r-elem}
 use Rattle.sheet_rows.specs.Rows.{row-of, row-holds}
 use borrow.Author.Needs.{needs}
 use Rattle.sheet_rows.proofs.row_holds.Statement.{statement}

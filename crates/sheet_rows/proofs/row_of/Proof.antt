@@ -6,7 +6,7 @@ use lib.IntN.{pos}
 use mir.Syntax.{w32}
 use mir.Val.{toZ, ofZ}
 use mir.ValLaws.{toZ-pos}
-use Rattle.zint.specs.Read.{r-var}
+use Rattle.zint.specs.ReadLaws.{r-var}
 use Rattle.silk_tables.specs.Rebuild.{carried}
 use Rattle.sheet_rows.specs.declared.RowRead.the-variants.{Held}
 use Rattle.sheet_rows.specs.Rows.{voiced-row, quiet-row}

@@ -8,7 +8,7 @@ use mir.Syntax.{w32}
 use mir.Val.{SFits, toZ, ofZ}
 use Rattle.zint.specs.Equal.{eqZ}
 use Rattle.zint.specs.EqualLaws.{eqZ-yes, eqZ-no}
-use Rattle.zint.specs.Read.{r-var}
+use Rattle.zint.specs.ReadLaws.{r-var}
 use Rattle.sheet_rows.specs.Rows.{same-four}
 use Rattle.sheet_rows.proofs.same_four.Statement.{statement}
 use Rattle.sheet_rows.proofs.same_four.Tie as tie

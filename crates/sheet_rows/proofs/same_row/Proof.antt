@@ -1,7 +1,7 @@
 -- `sheet_rows::same_row` meets its contract.
 use mathlib.Core.Path.{_≡_, sym, _∙_}
 use mir.Syntax.{w32}
-use Rattle.zint.specs.Read.{r-elem}
+use Rattle.zint.specs.ReadLaws.{r-elem}
 use Rattle.sheet_rows.specs.Rows.{same-four, same-row}
 use Rattle.sheet_rows.proofs.same_row.Statement.{statement}
 use Rattle.sheet_rows.proofs.same_row.Tie as tie

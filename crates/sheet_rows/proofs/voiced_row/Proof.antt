@@ -6,7 +6,7 @@ use lib.IntN.{ℤ}
 use lib.Signed.{mag}
 use mir.Syntax.{w32}
 use mir.Val.{hbits, toZ, ofZ}
-use Rattle.zint.specs.Read.{r-var, r-got}
+use Rattle.zint.specs.ReadLaws.{r-var, r-got}
 use Rattle.silk_tables.specs.Rebuild.{carried}
 use Rattle.pitch_settings.specs.Settings.{settings-no}
 use Rattle.sheet_rows.specs.Rows.{lag-place, voiced-row}

@@ -7,7 +7,7 @@ use lib.IntN.{pos, natAbs}
 use lib.ListN.{length, length-set}
 use mir.Syntax.{w8, w16, w32}
 use mir.Val.{toZ, ofZ}
-use Rattle.zint.specs.Read.{r-elem, as-unsigned}
+use Rattle.zint.specs.ReadLaws.{r-elem, as-unsigned}
 use Rattle.sheet_sections.specs.declared.Section.{Section}
 use Rattle.sheet_sections.specs.declared.Section.the-variants.{Verdicts, Pairs, Correlations}
 use Rattle.sheet_sections.specs.Sheet.{listed, part}

@@ -1,7 +1,7 @@
 -- `sheet_sections::put_section` meets its contract.
 use mathlib.Core.Path.{_≡_, ap, _∙_}
 use lib.ListN.{length, length-append}
-use Rattle.lists.specs.Fill.{table}
+use Rattle.lists.specs.Fill.{tabulate}
 use Rattle.pitch_table.specs.Row.{row-at}
 use Rattle.sheet_bytes.specs.Bytes.{low-bytes}
 use Rattle.sheet_bytes.specs.BytesLaws.{length-bytes}
@@ -16,10 +16,10 @@ use Rattle.sheet_sections.proofs.put_section.Statement.{statement}
 use Rattle.sheet_sections.proofs.put_section.Tie as tie
 
 abbrev Inv-loop : tie.InvT-loop
-Inv-loop page₀ at which count table frames end₀ i₀ page end i = (i ≤ frames) × Put page₀ (at + 4) (parts which (rows-of table i)) end page
+Inv-loop page₀ at which count tabulate frames end₀ i₀ page end i = (i ≤ frames) × Put page₀ (at + 4) (parts which (rows-of tabulate i)) end page
 
 abbrev μ-loop : tie.MeasureT-loop
-μ-loop page₀ at which count table frames end₀ i₀ page end i = frames - i
+μ-loop page₀ at which count tabulate frames end₀ i₀ page end i = frames - i
 
 few : (c : tie.Start Inv-loop μ-loop) → c .args .count ≤ 4096
 few c = omega (arith, c .pre .1, c .pre .3, entries-le (c .args .which) (rows-of (c .args .table .now) (c .args .frames)), length-rows (c .args .table .now) (c .args .frames))
@@ -40,7 +40,7 @@ add-end : tie.Need-add-end Inv-loop μ-loop
 add-end c = omega (arith, room (c .before .before .before .before .before), c .before .before .before .before .before .good)
 
 loop-holds : tie.Need-loop-holds Inv-loop μ-loop
-unfolding rows-of table entries joined
+unfolding rows-of tabulate entries joined
 loop-holds c = (omega arith, put-none (c .before .before .put-u32 .last .0) (c .before .before .before .before .before .args .at + 4))
 
 get-row-requires : tie.Need-get-row-requires Inv-loop μ-loop

@@ -4,8 +4,8 @@ use Prim.Native.Nat.{ℕ, _≤_}
 use native.Mathlib.Omega.{arith}
 use mir.Syntax.{w32}
 use mir.Val.{Fits}
-use Rattle.zint.specs.Read.{r-elem}
-use Rattle.pitch_settings.specs.SettingsLaws.{accepted}
+use Rattle.zint.specs.ReadLaws.{r-elem}
+use Rattle.pitch_settings.specs.SettingsLaws.{accepted-settings}
 use Rattle.lists.specs.PutLaws.{put-then}
 use Rattle.sheet_sections.specs.SheetLaws.{put-word, put-signed, settings-put}
 use borrow.Author.Needs.{needs}
@@ -16,13 +16,13 @@ small : (n : ℕ) → n ≤ 16 → Fits w32 n
 small n h = record { fits = omega arith }
 
 cast-put-u32 : tie.Need-cast-put-u32
-cast-put-u32 c = small (c .before .before .before .before .before .before .before .args .s .rate) (accepted (c .before .before .before .before .before .before .before .args .s) (c .before .before .before .before .before .before .before .pre .0) .rate-high)
+cast-put-u32 c = small (c .before .before .before .before .before .before .before .args .s .rate) (accepted-settings (c .before .before .before .before .before .before .before .args .s) (c .before .before .before .before .before .before .before .pre .0) .rate-high)
 
 cast-put-u32-2 : tie.Need-cast-put-u32-2
-cast-put-u32-2 c = let a = accepted (c .before .before .before .before .before .before .before .before .before .before .before .before .args .s) (c .before .before .before .before .before .before .before .before .before .before .before .before .pre .0) in small (c .before .before .before .before .before .before .before .before .before .before .before .before .args .s .nb) (omega (arith, a .nb-high))
+cast-put-u32-2 c = let a = accepted-settings (c .before .before .before .before .before .before .before .before .before .before .before .before .args .s) (c .before .before .before .before .before .before .before .before .before .before .before .before .pre .0) in small (c .before .before .before .before .before .before .before .before .before .before .before .before .args .s .nb) (omega (arith, a .nb-high))
 
 cast-put-u32-3 : tie.Need-cast-put-u32-3
-cast-put-u32-3 c = let a = accepted (c .before .before .before .before .before .before .before .before .before .before .before .before .before .before .before .before .before .args .s) (c .before .before .before .before .before .before .before .before .before .before .before .before .before .before .before .before .before .pre .0) in small (c .before .before .before .before .before .before .before .before .before .before .before .before .before .before .before .before .before .args .s .complexity) (omega (arith, a .complexity))
+cast-put-u32-3 c = let a = accepted-settings (c .before .before .before .before .before .before .before .before .before .before .before .before .before .before .before .before .before .args .s) (c .before .before .before .before .before .before .before .before .before .before .before .before .before .before .before .before .before .pre .0) in small (c .before .before .before .before .before .before .before .before .before .before .before .before .before .before .before .before .before .args .s .complexity) (omega (arith, a .complexity))
 
 put-i32-requires-2 : tie.Need-put-i32-requires-2
 put-i32-requires-2 c κs = omega (arith, c .before .before .before .before .put-i32 .kept .0, c .before .before .before .before .before .before .before .before .before .put-u324 .kept .0, c .before .before .before .before .before .before .before .before .before .before .before .before .before .before .put-u323 .kept .0, c .before .before .before .before .before .before .before .before .before .before .before .before .before .before .before .before .before .before .before .put-u322 .kept .0, c .before .before .before .before .before .before .before .before .before .before .before .before .before .before .before .before .before .before .before .before .before .before .before .before .put-u32 .kept .0, c .before .before .before .before .before .before .before .before .before .before .before .before .before .before .before .before .before .before .before .before .before .before .before .before .before .before .before .pre .1)

@@ -4,8 +4,8 @@ use mathlib.Core.Logic.{⊎-elim}
 use Prim.Native.Nat.{ℕ, _+_, _-_, _≤_}
 use mir.Syntax.{w32}
 use mir.Val.{toZ, ofZ}
-use Rattle.zint.specs.Read.{r-elem}
-use Rattle.lists.specs.Fill.{table}
+use Rattle.zint.specs.ReadLaws.{r-elem}
+use Rattle.lists.specs.Fill.{tabulate}
 use Rattle.pitch_table.specs.declared.Row.{Row}
 use Rattle.pitch_table.specs.Row.{row-at}
 use Rattle.sheet_sections.specs.SheetLaws.{entries-le, length-rows, count-listed, count-unlisted}
@@ -19,17 +19,17 @@ use Rattle.sheet_sections.proofs.voiced_rows.Statement.{statement}
 use Rattle.sheet_sections.proofs.voiced_rows.Tie as tie
 
 abbrev Inv-loop : tie.InvT-loop
-Inv-loop table frames voiced₀ i₀ voiced i = (i ≤ frames) × (voiced ≡ length (entries Pairs (rows-of table i)))
+Inv-loop tabulate frames voiced₀ i₀ voiced i = (i ≤ frames) × (voiced ≡ length (entries Pairs (rows-of tabulate i)))
 
 abbrev μ-loop : tie.MeasureT-loop
-μ-loop table frames voiced₀ i₀ voiced i = frames - i
+μ-loop tabulate frames voiced₀ i₀ voiced i = frames - i
 
 -- the row's verdict is what was tested
 verdict-is : (c : tie.After-struct-told Inv-loop μ-loop) → toZ w32 (ofZ w32 (c .before .before .get-row .result .verdict)) ≡ row-at (c .before .before .before .before .before .args .table .now) (c .before .before .before .before .loop .i) .verdict
 verdict-is c = r-elem w32 (c .before .before .get-row .result .verdict) (c .struct-told .given .0 .1) .val ∙ ap (λ (r : Row). r .verdict) (c .before .before .get-row .ensures)
 
 loop-holds : tie.Need-loop-holds Inv-loop μ-loop
-unfolding rows-of table entries
+unfolding rows-of tabulate entries
 loop-holds c = (omega arith, refl)
 
 get-row-requires : tie.Need-get-row-requires Inv-loop μ-loop

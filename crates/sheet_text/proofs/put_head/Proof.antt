@@ -6,18 +6,18 @@ use native.Mathlib.Omega.{arith}
 use borrow.Author.Needs.{needs}
 use lib.IntN.{ℤ}
 use lib.ListN.{length, take, length-set}
-use Rattle.pitch_settings.specs.SettingsLaws.{accepted}
+use Rattle.pitch_settings.specs.SettingsLaws.{accepted-settings}
 use Rattle.pitch_text.specs.Decimal.{digits}
 use Rattle.pitch_text.specs.DecimalLaws.{digits-few}
 use Rattle.pitch_text.specs.Text.{fields}
 use Rattle.pitch_text.specs.TextLaws.{put-then, put-as, put-byte}
-use Rattle.sheet_text.specs.Program.{head-values, head-text}
+use Rattle.sheet_text.specs.Program.{head-values, sheet-head}
 use Rattle.sheet_text.proofs.put_head.Statement.{statement}
 use Rattle.sheet_text.proofs.put_head.Tie as tie
 
 -- a rate has two digits at most
 short : (c : tie.Start) → length (digits (c .args .s .rate)) ≤ 2
-short c = digits-few 1 (c .args .s .rate) (omega (arith, accepted (c .args .s) (c .pre .0) .rate-high))
+short c = digits-few 1 (c .args .s .rate) (omega (arith, accepted-settings (c .args .s) (c .pre .0) .rate-high))
 
 size : (c : tie.After-head-values) → length (c .head-values .result) ≡ 5
 unfolding head-values
@@ -26,7 +26,7 @@ size c = ap length (c .head-values .ensures)
 cast-put-digits : tie.Need-cast-put-digits
 cast-put-digits c =
     let s = c .before .before .before .before in
-    omega (arith, accepted (s .args .s) (s .pre .0) .rate-high)
+    omega (arith, accepted-settings (s .args .s) (s .pre .0) .rate-high)
 
 put-digits-requires : tie.Need-put-digits-requires
 put-digits-requires c κs = let s = c .before .before .before .before in omega (arith, short s, s .pre .2)
@@ -58,7 +58,7 @@ same-length : tie.Need-same-length
 same-length c = simp length-set (kept (c .before .before))
 
 returns : tie.Need-returns
-unfolding head-text head-values
+unfolding sheet-head head-values
 returns c =
     let f = c .before .before in
     let d = f .before .before .before .before .before in

@@ -6,7 +6,7 @@ use native.Mathlib.Omega.{arith}
 use borrow.Author.Needs.{needs}
 use Rattle.pitch_text.specs.Text.{refused-text}
 use Rattle.pitch_text.specs.TextLaws.{put-as, put-count, put-over}
-use Rattle.sheet_text.specs.Program.{printedOf}
+use Rattle.sheet_text.specs.Program.{sheet-text-call}
 use Rattle.sheet_text.specs.ProgramLaws.{no-sheet, none-more, text-refused, table-kept, outcome, Found, found, Refused, refused, settings-known, few-frames, text-report}
 use Rattle.sheet_text.proofs.sheet_text.Statement.{statement}
 use Rattle.sheet_text.proofs.sheet_text.Tie as tie
@@ -49,7 +49,7 @@ returns-2 c =
       λ rest e.
           let q = put-as (w .0) (text-report (sheet d)) in
           outcome (s .args .input .now) (s .args .out .now) (s .args .table .now) (put-count q) (put-over q (omega (arith, w .1, s .pre .2))) (sheet d .left)
-          ∙ ap (λ (p : List ℕ). printedOf p (s .args .out .now) (s .args .table .now)) (sym (none-more (s .args .input .now) rest (e ∙ n))),
+          ∙ ap (λ (p : List ℕ). sheet-text-call p (s .args .out .now) (s .args .table .now)) (sym (none-more (s .args .input .now) rest (e ∙ n))),
       w .1,
     )
 
@@ -62,7 +62,7 @@ returns-3 c =
       λ rest e.
           let q = put-as (w .0) (ap refused-text (none d .nine) ∙ text-refused (s .args .input .now) (none d .bad)) in
           outcome (s .args .input .now) (s .args .out .now) (s .args .table .now) (put-count q) (put-over q (omega (arith, w .1, s .pre .2))) (none d .left)
-          ∙ ap (λ (p : List ℕ). printedOf p (s .args .out .now) (s .args .table .now)) (sym (none-more (s .args .input .now) rest (e ∙ n))),
+          ∙ ap (λ (p : List ℕ). sheet-text-call p (s .args .out .now) (s .args .table .now)) (sym (none-more (s .args .input .now) rest (e ∙ n))),
       omega (arith, w .1),
     )
 

@@ -1,7 +1,7 @@
 -- `sheet_write_bytes::put_track` meets its contract.
 use mathlib.Core.Path.{_≡_, ap, _∙_}
 use Rattle.pitch_track.specs.declared.Started.{Started}
-use Rattle.pitch_track.specs.Step.{outcome, startOf, deliverOf}
+use Rattle.pitch_track.specs.Step.{delivery-outcome, start-call, deliver-call}
 use Rattle.sheet_write_bytes.specs.ProgramLaws.{rows-left, never-refused, sheet-put}
 use borrow.Author.Needs.{needs}
 use Rattle.sheet_write_bytes.proofs.put_track.Statement.{statement}
@@ -12,8 +12,8 @@ module _ (c : tie.After-deliver) where
   abbrev start : tie.Start
   start = c .before .before .before .before .before
 
-  delivered : outcome (c .deliver .result) (c .deliver .last .1 .1 .0) ≡ deliverOf (startOf (start .args .s) .track) (start .args .table .now) (start .args .x .now)
-  delivered = c .deliver .ensures .0 ∙ ap (λ (r : Started). deliverOf (r .track) (start .args .table .now) (start .args .x .now)) (c .before .before .before .start .ensures .0)
+  delivered : delivery-outcome (c .deliver .result) (c .deliver .last .1 .1 .0) ≡ deliver-call (start-call (start .args .s) .track) (start .args .table .now) (start .args .x .now)
+  delivered = c .deliver .ensures .0 ∙ ap (λ (r : Started). deliver-call (r .track) (start .args .table .now) (start .args .x .now)) (c .before .before .before .start .ensures .0)
 
 returns : tie.Need-returns
 returns c =
@@ -21,7 +21,7 @@ returns c =
     let d = w .before .before .before .before .before in
     let a = start d in
     let g = c .enum-told .given in
-    absurd (never-refused (a .args .s) (a .args .table .now) (a .args .x .now) (a .args .out .now) (a .pre .0) (a .pre .1) (a .pre .2) (outcome (d .deliver .result) (d .deliver .last .1 .1 .0)) (delivered d) (w .write-sheet .result) (w .write-sheet .last .1 .1 .1 .0) (w .write-sheet .ensures .0) (g .0 .0) (g .1))
+    absurd (never-refused (a .args .s) (a .args .table .now) (a .args .x .now) (a .args .out .now) (a .pre .0) (a .pre .1) (a .pre .2) (delivery-outcome (d .deliver .result) (d .deliver .last .1 .1 .0)) (delivered d) (w .write-sheet .result) (w .write-sheet .last .1 .1 .1 .0) (w .write-sheet .ensures .0) (g .0 .0) (g .1))
 
 returns-2 : tie.Need-returns-2
 returns-2 c =
@@ -29,7 +29,7 @@ returns-2 c =
     let d = w .before .before .before .before .before in
     let a = start d in
     let g = c .before .w .given in
-    let o = outcome (d .deliver .result) (d .deliver .last .1 .1 .0) in
+    let o = delivery-outcome (d .deliver .result) (d .deliver .last .1 .1 .0) in
     let p =
     sheet-put (a .args .s) (a .args .table .now) (a .args .x .now) (a .args .out .now) (a .pre .0) (a .pre .1) (a .pre .2) o (delivered d) (w .write-sheet .result) (w .write-sheet .last .1 .1 .1 .0) (w .write-sheet .ensures .0) (g .0 .0) (g .1) in
     (p .0, p .1, rows-left (a .args .s) (a .args .table .now) (a .args .x .now) (a .args .out .now) (a .pre .0) (a .pre .1) (a .pre .2) o (delivered d))

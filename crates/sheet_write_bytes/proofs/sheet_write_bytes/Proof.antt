@@ -6,15 +6,15 @@ use native.Mathlib.Omega.{arith}
 use lib.IntN.{ℤ}
 use lib.ListN.{length, take, drop, length-append, length-drop}
 use lib.Seq.{length-take-le}
-use Rattle.lists.specs.Push.{headed}
+use Rattle.lists.specs.Fill.{overwritten}
 use Rattle.pitch_settings.specs.Settings.{settings-no}
 use Rattle.pitch_input.specs.InputLaws.{loaded, loaded-over}
-use Rattle.pitch_track.specs.Paper.{F, tableOf}
+use Rattle.pitch_track.specs.Paper.{F, paper-table}
 use Rattle.pitch_text.specs.TextLaws.{put-as, put-count, put-over}
 use Rattle.track_text.specs.Program.{samples-in, program-no}
 use Rattle.track_text.specs.ProgramLaws.{Ready, at-hand, small-number, few-samples, samples-count, none-after, answer-refused, answer-taken}
 use Rattle.track_sheet.specs.Accepted.{paper-sheet}
-use Rattle.sheet_write_bytes.specs.Program.{writtenOf}
+use Rattle.sheet_write_bytes.specs.Program.{sheet-bytes-call}
 use Rattle.sheet_write_bytes.specs.ProgramLaws.{written-refused, written-sheet, small-sheet, few-taken}
 use Rattle.sheet_write_bytes.proofs.sheet_write_bytes.Statement.{statement}
 use Rattle.sheet_write_bytes.proofs.sheet_write_bytes.Tie as tie
@@ -46,7 +46,7 @@ module _ (c : tie.After-load-samples) where
   unfolding samples-in
   x-is = loaded (c .before .before .before .before .before .before .before .args .input .now) 11 (count (c .before .before .before)) (c .before .before .before .before .before .before .before .args .samples .now) (c .load-samples .last .1 .1 .0) (room (c .before .before .before)) (c .load-samples .ensures)
 
-  whole-is : c .load-samples .last .1 .1 .0 ++ drop (count (c .before .before .before)) (c .before .before .before .before .before .before .before .args .samples .now) ≡ headed (samples-in (c .before .before .before .before .before .before .before .args .input .now)) (c .before .before .before .before .before .before .before .args .samples .now)
+  whole-is : c .load-samples .last .1 .1 .0 ++ drop (count (c .before .before .before)) (c .before .before .before .before .before .before .before .args .samples .now) ≡ overwritten (samples-in (c .before .before .before .before .before .before .before .args .input .now)) (c .before .before .before .before .before .before .before .args .samples .now)
   unfolding samples-in
   whole-is = loaded-over (c .before .before .before .before .before .before .before .args .input .now) 11 (count (c .before .before .before)) (c .before .before .before .before .before .before .before .args .samples .now) (c .load-samples .last .1 .1 .0) (room (c .before .before .before)) (c .load-samples .ensures)
 
@@ -72,7 +72,7 @@ same-length : tie.Need-same-length
 same-length c = c .before .before .put-refused .kept .0
 
 returns : tie.Need-returns
-unfolding writtenOf
+unfolding sheet-bytes-call
 returns c =
     let s = c .before .before .before .before .before .before .before .before in
     let p = c .before .before .before .before .before .program-no in
@@ -127,7 +127,7 @@ same-length-4 : tie.Need-same-length-4
 same-length-4 c = c .before .before .before .put-track .kept .1 .1 .1 .0
 
 returns-2 : tie.Need-returns-2
-unfolding writtenOf
+unfolding sheet-bytes-call
 returns-2 c =
     let s = c .before .before .before .before .before .before .before .before .before .before .before .before .before .before .before in
     let p = c .before .before .before .before .before .before .before .before .before .before .before .before .program-no in
@@ -140,8 +140,8 @@ returns-2 c =
           let g = none-after b rest (s .args .more) (whole (d .before .before .before) .0) e in
           let z = ap program-no (sym g) ∙ sym (p .ensures rest e) ∙ c .before .before .before .before .before .before .before .before .before .before .before .if1 .left in
           let k = ap₂ paper-sheet settings (x-is d) ∙ written-sheet b z in
-          answer-taken b _ out _ _ (w .0 ∙ ap length k) (w .1 ∙ ap (λ (l : List ℕ). headed l out) k) z (whole-is d) (w .2 ∙ (λ i. tableOf (settings i) (s .args .table .now) (x-is d i)))
-          ∙ ap (λ (l : List ℕ). writtenOf l out (s .args .samples .now) (s .args .table .now)) (sym g),
+          answer-taken b _ out _ _ (w .0 ∙ ap length k) (w .1 ∙ ap (λ (l : List ℕ). overwritten l out) k) z (whole-is d) (w .2 ∙ (λ i. paper-table (settings i) (s .args .table .now) (x-is d i)))
+          ∙ ap (λ (l : List ℕ). sheet-bytes-call l out (s .args .samples .now) (s .args .table .now)) (sym g),
       omega (arith, w .0, small d),
     )
 

@@ -6,12 +6,12 @@ use native.Mathlib.Omega.{arith}
 use lib.IntN.{ℤ}
 use lib.ListN.{length, take}
 use lib.Seq.{length-take-le}
-use Rattle.zint.specs.Read.{r-var}
-use Rattle.zint.specs.Rules.{zneeds}
+use Rattle.zint.specs.ReadLaws.{r-var}
+use Rattle.zint.specs.RuleLaws.{zneeds}
 use Rattle.pitch_settings.specs.Settings.{frame-length}
-use Rattle.pitch_settings.specs.SettingsLaws.{accepted}
-use Rattle.silk_signals.specs.Scale.{scaled}
-use Rattle.silk_signals.specs.ScaleLaws.{length-scaled, working-scaled}
+use Rattle.pitch_settings.specs.SettingsLaws.{accepted-settings}
+use Rattle.frame_signals.specs.Scale.{scaled}
+use Rattle.frame_signals.specs.ScaleLaws.{length-scaled, working-scaled}
 use Rattle.silk_pitch_analysis.specs.Frame.{staged, verdict-of}
 use Rattle.silk_pitch_analysis.proofs.analyse.Statement.{statement}
 use Rattle.silk_pitch_analysis.proofs.analyse.Tie as tie
@@ -24,7 +24,7 @@ within : (c : tie.After-frame-length) → c .frame-length .result ≤ length (c 
 within c = omega (arith, c .frame-length .ensures, c .before .pre .1)
 
 few : (c : tie.After-frame-length) → c .frame-length .result ≤ 640
-few c = omega (arith, c .frame-length .ensures, accepted _ (c .before .pre .0) .small)
+few c = omega (arith, c .frame-length .ensures, accepted-settings _ (c .before .pre .0) .small)
 
 -- what the working frame is
 module _ (c : tie.After-working-frame) where
@@ -44,7 +44,7 @@ module _ (c : tie.After-working-frame) where
       ∙ ap (λ (n : ℕ). scaled (take n (start .args .frame .now))) (sized .frame-length .ensures)
 
 frame-shift-requires : tie.Need-frame-shift-requires
-frame-shift-requires c κs = let a = accepted _ (c .before .pre .0) in (omega (arith, a .some, a .within, c .frame-length .ensures), (omega (arith, few c), within c))
+frame-shift-requires c κs = let a = accepted-settings _ (c .before .pre .0) in (omega (arith, a .some, a .within, c .frame-length .ensures), (omega (arith, few c), within c))
 
 slice-aggregate-scale-into : tie.Need-slice-aggregate-scale-into
 slice-aggregate-scale-into c = refl

@@ -5,13 +5,13 @@ use Prim.Native.Nat.{ℕ, _+_, _*_, _/_, _≤_}
 use native.Mathlib.Omega.{arith}
 use lib.IntN.{ℤ, pos}
 use lib.ListN.{length, take, replicate, length-replicate}
-use Rattle.zint.specs.Read.{r-var}
-use Rattle.zint.specs.Rules.{zneeds}
-use Rattle.lists.specs.Push.{headed}
-use Rattle.pitch_settings.specs.SettingsLaws.{accepted}
-use Rattle.silk_signals.specs.Signals.{eight, four}
-use Rattle.silk_signals.specs.SignalLaws.{take-headed}
-use Rattle.silk_stage1.specs.Stage1.{stage1}
+use Rattle.zint.specs.ReadLaws.{r-var}
+use Rattle.zint.specs.RuleLaws.{zneeds}
+use Rattle.lists.specs.Fill.{overwritten}
+use Rattle.pitch_settings.specs.SettingsLaws.{accepted-settings}
+use Rattle.frame_signals.specs.Signals.{down-to-8khz, down-to-4khz}
+use Rattle.frame_signals.specs.SignalLaws.{take-overwritten}
+use Rattle.stage1.specs.Stage1.{stage1}
 use Rattle.silk_pitch_analysis.specs.declared.Verdict.{Verdict}
 use Rattle.silk_pitch_analysis.specs.Frame.{from-screen, staged}
 use Rattle.silk_pitch_analysis.specs.FrameLaws.{eight-length, four-length, at-12}
@@ -26,14 +26,14 @@ module _ (c : tie.After-frame-8khz) where
   abbrev n8 : ℕ
   n8 = (20 + 5 * start .args .s .nb) * 8
 
-  e-length : length (eight (start .args .s .rate) (start .args .w .now)) ≡ n8
+  e-length : length (down-to-8khz (start .args .s .rate) (start .args .w .now)) ≡ n8
   e-length = eight-length (start .args .s) (start .args .w .now) (start .pre .0) (start .pre .1)
 
-  e-front : take n8 (c .frame-8khz .last .1 .0) ≡ eight (start .args .s .rate) (start .args .w .now)
-  e-front = ap (take n8) (c .frame-8khz .ensures) ∙ take-headed _ _ n8 e-length
+  e-front : take n8 (c .frame-8khz .last .1 .0) ≡ down-to-8khz (start .args .s .rate) (start .args .w .now)
+  e-front = ap (take n8) (c .frame-8khz .ensures) ∙ take-overwritten _ _ n8 e-length
 
   e-room : n8 ≤ length (c .frame-8khz .last .1 .0)
-  e-room = omega (arith, c .frame-8khz .kept .1 .0, accepted _ (start .pre .0) .nb-high)
+  e-room = omega (arith, c .frame-8khz .kept .1 .0, accepted-settings _ (start .pre .0) .nb-high)
 
 -- the 4 kHz signal in its buffer
 module _ (g : tie.After-frame-4khz) where
@@ -44,36 +44,36 @@ module _ (g : tie.After-frame-4khz) where
   n4 = (20 + 5 * start eighth .args .s .nb) * 4
 
   abbrev e : List ℤ
-  e = eight (start eighth .args .s .rate) (start eighth .args .w .now)
+  e = down-to-8khz (start eighth .args .s .rate) (start eighth .args .w .now)
 
-  f-length : length (four e) ≡ n4
+  f-length : length (down-to-4khz e) ≡ n4
   f-length = four-length (start eighth .args .s) (start eighth .args .w .now) (start eighth .pre .0) (start eighth .pre .1)
 
-  f-front : take n4 (g .frame-4khz .last .1 .0) ≡ four e
+  f-front : take n4 (g .frame-4khz .last .1 .0) ≡ down-to-4khz e
   f-front =
-      ap (take n4) (g .frame-4khz .ensures ∙ ap (λ (l : List ℤ). headed (four l) (replicate 160 (pos 0))) (e-front eighth))
-      ∙ take-headed (four e) (replicate 160 (pos 0)) n4 f-length
+      ap (take n4) (g .frame-4khz .ensures ∙ ap (λ (l : List ℤ). overwritten (down-to-4khz l) (replicate 160 (pos 0))) (e-front eighth))
+      ∙ take-overwritten (down-to-4khz e) (replicate 160 (pos 0)) n4 f-length
 
   f-room : n4 ≤ length (g .frame-4khz .last .1 .0)
-  f-room = omega (arith, g .frame-4khz .kept .1 .0, accepted _ (start eighth .pre .0) .nb-high)
+  f-room = omega (arith, g .frame-4khz .kept .1 .0, accepted-settings _ (start eighth .pre .0) .nb-high)
 
 mul-n8 : tie.Need-mul-n8
-mul-n8 c = omega (arith, accepted _ (c .pre .0) .nb-high)
+mul-n8 c = omega (arith, accepted-settings _ (c .pre .0) .nb-high)
 
 add-n8 : tie.Need-add-n8
-add-n8 c = omega (arith, accepted _ (c .pre .0) .nb-high)
+add-n8 c = omega (arith, accepted-settings _ (c .pre .0) .nb-high)
 
 mul-n8-2 : tie.Need-mul-n8-2
-mul-n8-2 c = omega (arith, accepted _ (c .pre .0) .nb-high)
+mul-n8-2 c = omega (arith, accepted-settings _ (c .pre .0) .nb-high)
 
 mul-n4 : tie.Need-mul-n4
-mul-n4 c = omega (arith, accepted _ (c .pre .0) .nb-high)
+mul-n4 c = omega (arith, accepted-settings _ (c .pre .0) .nb-high)
 
 add-n4 : tie.Need-add-n4
-add-n4 c = omega (arith, accepted _ (c .pre .0) .nb-high)
+add-n4 c = omega (arith, accepted-settings _ (c .pre .0) .nb-high)
 
 mul-n4-2 : tie.Need-mul-n4-2
-mul-n4-2 c = omega (arith, accepted _ (c .pre .0) .nb-high)
+mul-n4-2 c = omega (arith, accepted-settings _ (c .pre .0) .nb-high)
 
 slice-aggregate-frame-8khz : tie.Need-slice-aggregate-frame-8khz
 slice-aggregate-frame-8khz c = refl
@@ -81,7 +81,7 @@ slice-aggregate-frame-8khz c = refl
 frame-8khz-requires : tie.Need-frame-8khz-requires
 frame-8khz-requires c κs =
     let s = c .before in
-    (omega (arith, eight-length (s .args .s) (s .args .w .now) (s .pre .0) (s .pre .1), accepted _ (s .pre .0) .nb-high), at-12 (s .args .s) (s .args .w .now) (s .pre .0) (s .pre .1))
+    (omega (arith, eight-length (s .args .s) (s .args .w .now) (s .pre .0) (s .pre .1), accepted-settings _ (s .pre .0) .nb-high), at-12 (s .args .s) (s .args .w .now) (s .pre .0) (s .pre .1))
 
 array-share-prefix-buf-8khz : tie.Need-array-share-prefix-buf-8khz
 array-share-prefix-buf-8khz c = e-room (c .before)
@@ -93,7 +93,7 @@ slice-aggregate-frame-4khz-2 : tie.Need-slice-aggregate-frame-4khz-2
 slice-aggregate-frame-4khz-2 c = refl
 
 frame-4khz-requires : tie.Need-frame-4khz-requires
-frame-4khz-requires c κs = let d = c .before .before .before in omega (arith, ap length (e-front d) ∙ e-length d, accepted _ (start d .pre .0) .nb-high)
+frame-4khz-requires c κs = let d = c .before .before .before in omega (arith, ap length (e-front d) ∙ e-length d, accepted-settings _ (start d .pre .0) .nb-high)
 
 array-share-prefix-buf-8khz-2 : tie.Need-array-share-prefix-buf-8khz-2
 array-share-prefix-buf-8khz-2 c = e-room (eighth (c .before))

@@ -4,11 +4,11 @@ use Prim.Native.Nat.{ℕ}
 use borrow.Author.Needs.{needs}
 use borrow.Author.Tests.{ne-eqb}
 use lib.ListN.{length, take}
-use Rattle.zint.specs.Read.{r-var}
+use Rattle.zint.specs.ReadLaws.{r-var}
 use Rattle.pitch_settings.specs.Settings.{frame-length}
 use Rattle.pitch_table.specs.declared.Row.{Row}
 use Rattle.silk_pitch_analysis.specs.declared.RowAnswer.the-variants.{Analysed, Refused}
-use Rattle.silk_pitch_analysis.specs.Frame.{verdict-of, row-from, row-of, frame-no, row-answer}
+use Rattle.silk_pitch_analysis.specs.Frame.{verdict-of, row-from, frame-row, frame-no, row-answer}
 use Rattle.silk_pitch_analysis.specs.FrameLaws.{Carried, Taken, taken, row-taken, row-answer-told}
 use Rattle.silk_pitch_analysis.specs.VerdictLaws.{first-carried}
 use Rattle.silk_pitch_analysis.proofs.frame_row.Statement.{statement}
@@ -46,7 +46,7 @@ verdict-row-requires c κs =
     (t .settings, subst (Carried (s .args .s)) (sym (verdict c)) (first-carried (s .args .s) (s .args .x .now) (t .settings) (t .samples) (s .args .prev-lag) (s .args .prev-corr)))
 
 returns-2 : tie.Need-returns-2
-unfolding row-of
+unfolding frame-row
 returns-2 c =
     let a = c .before in
     let s = a .before .before .before in

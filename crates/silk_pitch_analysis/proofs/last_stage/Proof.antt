@@ -6,25 +6,25 @@ use native.Mathlib.Nat.{mul-le-mul}
 use native.Mathlib.Omega.{arith}
 use borrow.Author.Tests.{eq-eqb, ne-eqb}
 use lib.IntN.{ℤ}
-use Rattle.zint.specs.Read.{r-var}
-use Rattle.zint.specs.Rules.{zneeds}
-use Rattle.pitch_settings.specs.SettingsLaws.{accepted}
+use Rattle.zint.specs.ReadLaws.{r-var}
+use Rattle.zint.specs.RuleLaws.{zneeds}
+use Rattle.pitch_settings.specs.SettingsLaws.{accepted-settings}
 use Rattle.silk_tables.specs.Stage2Laws.{contours2-bounds}
 use Rattle.silk_tables.specs.TableLaws.{in-use-bounds}
-use Rattle.silk_stage3.specs.Stage3.{stage3}
-use Rattle.silk_stage3.specs.declared.Found.{Found}
-use Rattle.silk_stage3.specs.declared.Found.the-variants.{Pair, ZeroDivisor}
+use Rattle.stage3.specs.Stage3.{stage3}
+use Rattle.stage3.specs.declared.Found.{Found}
+use Rattle.stage3.specs.declared.Found.the-variants.{Pair, ZeroDivisor}
 use Rattle.silk_pitch_analysis.specs.Frame.{scaled-lag, from-pair, last-stage}
 use Rattle.silk_pitch_analysis.specs.FrameLaws.{handed, pair-lag}
 use Rattle.silk_pitch_analysis.proofs.last_stage.Statement.{statement}
 use Rattle.silk_pitch_analysis.proofs.last_stage.Tie as tie
 
 -- stage 3's answer, of the scaled winner
-found : (c : tie.After-silk-stage3) → c .silk-stage3 .result ≡ stage3 (c .before .before .args .w .now) (c .before .before .args .s .rate) (c .before .before .args .s .nb) (c .before .before .args .s .complexity) (c .before .before .args .lag * c .before .before .args .s .rate / 8)
-found c = c .silk-stage3 .ensures .0
+found : (c : tie.After-search-stage3) → c .search-stage3 .result ≡ stage3 (c .before .before .args .w .now) (c .before .before .args .s .rate) (c .before .before .args .s .nb) (c .before .before .args .s .complexity) (c .before .before .args .lag * c .before .before .args .s .rate / 8)
+found c = c .search-stage3 .ensures .0
 
 -- the last stage is stage 3
-last : (c : tie.After-silk-stage3) (x : Found) → c .silk-stage3 .result ≡ x
+last : (c : tie.After-search-stage3) (x : Found) → c .search-stage3 .result ≡ x
     → last-stage (c .before .before .args .s) (c .before .before .args .w .now) (c .before .before .args .lag) (c .before .before .args .contour) (c .before .before .args .correlation)
     ≡ from-pair (c .before .before .args .s .rate) (c .before .before .args .correlation) x
 unfolding last-stage scaled-lag
@@ -35,7 +35,7 @@ last c x e =
 voiced-requires : tie.Need-voiced-requires
 voiced-requires c κs =
     let s = c .before in
-    let a = accepted _ (s .pre .0) in
+    let a = accepted-settings _ (s .pre .0) in
     let b = contours2-bounds (s .args .s .rate) (s .args .s .nb) (s .args .s .complexity) in
     (a .rate-high, (omega (arith, c .if1 .taken, s .pre .1 .1 .high), omega (arith, b .1, s .pre .1 .1 .tried)))
 
@@ -46,14 +46,14 @@ returns c =
     rw (eq-eqb _ 8 (c .before .if1 .taken))
     (c .voiced .ensures ∙ ap (λ (k : ℤ). from-pair (s .args .s .rate) k (Pair (s .args .lag) (s .args .contour))) (r-var (s .fits .correlation) .val))
 
-mul-silk-stage3 : tie.Need-mul-silk-stage3
-mul-silk-stage3 c =
+mul-search-stage3 : tie.Need-mul-search-stage3
+mul-search-stage3 c =
     let s = c .before in
-    let a = accepted _ (s .pre .0) in
+    let a = accepted-settings _ (s .pre .0) in
     omega (arith, mul-le-mul (s .pre .1 .1 .high) (a .rate-high))
 
-silk-stage3-requires : tie.Need-silk-stage3-requires
-silk-stage3-requires c κs = let s = c .before in handed (s .args .s) (s .args .w .now) (s .pre .0) (s .pre .1 .0) (s .args .lag) (s .args .contour) (s .pre .1 .1) (c .if1 .left)
+search-stage3-requires : tie.Need-search-stage3-requires
+search-stage3-requires c κs = let s = c .before in handed (s .args .s) (s .args .w .now) (s .pre .0) (s .pre .1 .0) (s .args .lag) (s .args .contour) (s .pre .1 .1) (c .if1 .left)
 
 enum-known-found : tie.Need-enum-known-found
 enum-known-found c = search zneeds
@@ -85,4 +85,4 @@ returns-3 c =
     ∙ sym (last d (Pair (f .found .given .0 .0) (f .found .given .0 .1 .0)) (f .found .given .1))
 
 pub last-stage-spec : {M : Type 1} → statement M
-last-stage-spec = tie.close (tie.spec voiced-requires returns mul-silk-stage3 silk-stage3-requires enum-known-found enum-told returns-2 voiced-requires-2 returns-3)
+last-stage-spec = tie.close (tie.spec voiced-requires returns mul-search-stage3 search-stage3-requires enum-known-found enum-told returns-2 voiced-requires-2 returns-3)

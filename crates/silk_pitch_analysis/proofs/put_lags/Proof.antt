@@ -6,10 +6,11 @@ use native.Mathlib.Omega.{arith}
 use lib.IntN.{ℤ}
 use lib.ListN.{length, set}
 use mir.Syntax.{w32}
-use Rattle.zint.specs.Read.{r-got}
-use Rattle.zint.specs.Rules.{zneeds}
-use Rattle.pitch_settings.specs.SettingsLaws.{accepted}
-use Rattle.lists.specs.Fill.{filled, filled-none, filled-next, length-filled}
+use Rattle.zint.specs.ReadLaws.{r-got}
+use Rattle.zint.specs.RuleLaws.{zneeds}
+use Rattle.pitch_settings.specs.SettingsLaws.{accepted-settings}
+use Rattle.lists.specs.Fill.{filled}
+use Rattle.lists.specs.FillLaws.{filled-none, filled-next, length-filled}
 use Rattle.silk_pitch_analysis.specs.Frame.{lag-of}
 use Rattle.silk_pitch_analysis.proofs.put_lags.Statement.{statement}
 use Rattle.silk_pitch_analysis.proofs.put_lags.Tie as tie
@@ -27,7 +28,7 @@ verdict-lag-requires : tie.Need-verdict-lag-requires Inv-loop μ-loop
 verdict-lag-requires c κs = (c .before .before .pre .0, (c .before .before .pre .1 .0, c .loop-test .taken))
 
 mul-lag : tie.Need-mul-lag Inv-loop μ-loop
-mul-lag c = omega (arith, accepted _ (c .before .before .before .pre .0))
+mul-lag c = omega (arith, accepted-settings _ (c .before .before .before .pre .0))
 
 slice-set-from-lag : tie.Need-slice-set-from-lag Inv-loop μ-loop
 slice-set-from-lag c =

@@ -2,7 +2,7 @@
 use borrow.Author.Tests.{lt-ltb, le-ltb}
 use lib.IntN.{pos}
 use mir.Syntax.{w32}
-use Rattle.zint.specs.Read.{r-got}
+use Rattle.zint.specs.ReadLaws.{r-got}
 use Rattle.silk_pitch_analysis.specs.Frame.{row-lag}
 use Rattle.silk_pitch_analysis.proofs.row_lag.Statement.{statement}
 use Rattle.silk_pitch_analysis.proofs.row_lag.Tie as tie

@@ -4,35 +4,35 @@ use native.Mathlib.Omega.{arith}
 use lib.IntN.{ℤ}
 use mir.Syntax.{w32}
 use mir.Val.{toZ, ofZ}
-use Rattle.zint.specs.Read.{r-var, r-elem}
-use Rattle.zint.specs.Rules.{zneeds}
-use Rattle.pitch_settings.specs.SettingsLaws.{accepted}
-use Rattle.silk_stage2.specs.Stage2.{stage2}
-use Rattle.silk_stage2.specs.Theorem.{winner-range}
-use Rattle.silk_stage2.specs.declared.Stage2.{Stage2}
-use Rattle.silk_stage2.specs.declared.Stage2.the-variants.{Winner}
+use Rattle.zint.specs.ReadLaws.{r-var, r-elem}
+use Rattle.zint.specs.RuleLaws.{zneeds}
+use Rattle.pitch_settings.specs.SettingsLaws.{accepted-settings}
+use Rattle.stage2.specs.Stage2.{stage2}
+use Rattle.stage2.specs.MeaningLaws.{winner-range}
+use Rattle.stage2.specs.declared.Stage2.{Stage2}
+use Rattle.stage2.specs.declared.Stage2.the-variants.{Winner}
 use Rattle.silk_pitch_analysis.specs.Frame.{from-winner, last-stage}
 use Rattle.silk_pitch_analysis.specs.FrameLaws.{Won}
 use Rattle.silk_pitch_analysis.proofs.second_stage.Statement.{statement}
 use Rattle.silk_pitch_analysis.proofs.second_stage.Tie as tie
 
 -- stage 2's answer
-abbrev said : tie.After-silk-stage2 → Stage2
+abbrev said : tie.After-search-stage2 → Stage2
 said c =
     let a = c .before .before .before .args in
     stage2 (a .e .now) (a .kept .now) (a .s .rate) (a .s .nb) (a .s .complexity) (a .s .thres2) (a .prev-lag) (a .prev-corr)
 
-answer : (c : tie.After-silk-stage2) → c .silk-stage2 .result ≡ said c
+answer : (c : tie.After-search-stage2) → c .search-stage2 .result ≡ said c
 answer c =
     let s = c .before .before .before in
     let a = s .args in
-    c .silk-stage2 .ensures .0
+    c .search-stage2 .ensures .0
     ∙ (λ i. stage2 (a .e .now) (a .kept .now) (a .s .rate) (a .s .nb) (a .s .complexity) (r-elem w32 (a .s .thres2) (c .before .struct-told .given .1 .1 .1 .1 .0 .1) .val i) (r-var (s .fits .prev-lag) .val i) (r-var (s .fits .prev-corr) .val i))
 
-silk-stage2-requires : tie.Need-silk-stage2-requires
-silk-stage2-requires c κs =
+search-stage2-requires : tie.Need-search-stage2-requires
+search-stage2-requires c κs =
     let p = c .before .before .pre in
-    let a = accepted _ (p .0) in
+    let a = accepted-settings _ (p .0) in
     record { rate = a .rate; subframes = a .subframes; complexity = omega (arith, a .complexity); long = omega (arith, p .1 .1 .0); lags = p .1 .1 .1 }
 
 enum-known-answer : tie.Need-enum-known-answer
@@ -78,4 +78,4 @@ returns-3 c =
     ap (from-winner (s .args .s) (s .args .w .now)) (sym (c .enum-told2 .given .1) ∙ answer d)
 
 pub second-stage-spec : {M : Type 1} → statement M
-second-stage-spec = tie.close (tie.spec silk-stage2-requires enum-known-answer last-stage-requires enum-told enum-told-2 returns returns-2 returns-3)
+second-stage-spec = tie.close (tie.spec search-stage2-requires enum-known-answer last-stage-requires enum-told enum-told-2 returns returns-2 returns-3)

@@ -6,11 +6,11 @@ use borrow.Author.Needs.{needs}
 use borrow.Author.Tests.{eq-eqb, ne-eqb}
 use lib.IntN.{ℤ}
 use lib.ListN.{length, take}
-use Rattle.zint.specs.Read.{r-var}
+use Rattle.zint.specs.ReadLaws.{r-var}
 use Rattle.pitch_settings.specs.Settings.{frame-length}
 use Rattle.silk_pitch_analysis.specs.declared.Verdict.{Verdict}
 use Rattle.silk_pitch_analysis.specs.declared.Answer.the-variants.{Refused, Analysed}
-use Rattle.silk_pitch_analysis.specs.Frame.{verdict-of, frame-no, outcome, analysed, frameOf}
+use Rattle.silk_pitch_analysis.specs.Frame.{verdict-of, frame-no, frame-outcome, analysed, frame-call}
 use Rattle.silk_pitch_analysis.specs.FrameLaws.{Carried, Taken, taken, answer-told}
 use Rattle.silk_pitch_analysis.specs.VerdictLaws.{first-carried}
 use Rattle.silk_pitch_analysis.proofs.silk_pitch_analysis_core.Statement.{statement}
@@ -33,14 +33,14 @@ frame-no-requires c κs = search needs
 
 -- a refusal, with the lag places as they were
 refused : (c : tie.Then1)
-    → outcome (Refused (c .before .frame-no .result)) (c .before .before .args .pitch-out .now)
-    ≡ frameOf (c .before .before .args .s) (c .before .before .args .frame .now) (c .before .before .args .pitch-out .now) (c .before .before .args .prev-lag) (c .before .before .args .prev-corr)
-unfolding frameOf
+    → frame-outcome (Refused (c .before .frame-no .result)) (c .before .before .args .pitch-out .now)
+    ≡ frame-call (c .before .before .args .s) (c .before .before .args .frame .now) (c .before .before .args .pitch-out .now) (c .before .before .args .prev-lag) (c .before .before .args .prev-corr)
+unfolding frame-call
 refused c =
     let s = c .before .before in
     let e = c .before .frame-no .ensures in
     rw (ne-eqb _ 0 (λ (z : frame-no (s .args .s) (length (s .args .frame .now)) (length (s .args .pitch-out .now)) ≡ 0). c .if1 .taken (e ∙ z)))
-    (ap (λ (k : ℕ). outcome (Refused k) (s .args .pitch-out .now)) e)
+    (ap (λ (k : ℕ). frame-outcome (Refused k) (s .args .pitch-out .now)) e)
 
 returns : tie.Need-returns
 returns c = answer-told _ _ _ _ _ _ _ (refused c)
@@ -59,14 +59,14 @@ same-length : tie.Need-same-length
 same-length c = search needs
 
 returns-2 : tie.Need-returns-2
-unfolding frameOf analysed
+unfolding frame-call analysed
 returns-2 c =
     let p = c .before in
     let a = p .before .before in
     let s = a .before .before .before in
     answer-told (s .args .s) (s .args .frame .now) (s .args .pitch-out .now) (s .args .prev-lag) (s .args .prev-corr) _ _
     (rw (eq-eqb _ 0 (sym (a .before .before .frame-no .ensures) ∙ a .before .if1 .left))
-    (ap (λ (l : List ℤ). outcome (Analysed (a .analyse .result)) l) (p .put-lags .ensures)
+    (ap (λ (l : List ℤ). frame-outcome (Analysed (a .analyse .result)) l) (p .put-lags .ensures)
     ∙ ap (λ (v : Verdict). analysed (s .args .s) v (s .args .pitch-out .now)) (verdict a)))
 
 pub silk-pitch-analysis-core-spec : {M : Type 1} → statement M

@@ -7,27 +7,27 @@ use lib.IntN.{ℤ}
 use lib.ListN.{length, take}
 use lib.Seq.{length-take-le}
 use mir.Syntax.{w32}
-use Rattle.zint.specs.Read.{r-var, r-elem}
-use Rattle.zint.specs.Rules.{zneeds}
-use Rattle.pitch_settings.specs.SettingsLaws.{accepted}
-use Rattle.silk_stage1.specs.Stage1.{stage1, kept}
-use Rattle.silk_stage1.specs.AnswerLaws.{kept-few, kept-low, kept-high, answer-size, answer-count, answer-kept}
-use Rattle.silk_stage1.specs.declared.Screen.{Screen}
-use Rattle.silk_stage1.specs.declared.Screen.the-variants.{Goes}
-use Rattle.silk_stage1.specs.declared.Stage1.{Stage1}
-use Rattle.silk_stage2.specs.Stage2.{stage2}
+use Rattle.zint.specs.ReadLaws.{r-var, r-elem}
+use Rattle.zint.specs.RuleLaws.{zneeds}
+use Rattle.pitch_settings.specs.SettingsLaws.{accepted-settings}
+use Rattle.stage1.specs.Stage1.{stage1, kept}
+use Rattle.stage1.specs.AnswerLaws.{kept-few, kept-low, kept-high, answer-size, answer-count, answer-kept}
+use Rattle.stage1.specs.declared.Screen.{Screen}
+use Rattle.stage1.specs.declared.Screen.the-variants.{Goes}
+use Rattle.stage1.specs.declared.Stage1.{Stage1}
+use Rattle.stage2.specs.Stage2.{stage2}
 use Rattle.stage2_correlations.specs.Marks.{Kept}
 use Rattle.silk_pitch_analysis.specs.Frame.{from-winner, from-screen, second-stage}
 use Rattle.silk_pitch_analysis.proofs.stages.Statement.{statement}
 use Rattle.silk_pitch_analysis.proofs.stages.Tie as tie
 
 -- stage 1's answer, and what is kept where it goes on
-module _ (c : tie.After-silk-stage1) where
+module _ (c : tie.After-search-stage1) where
   abbrev start : tie.Start
   start = c .before .before
 
   few : start .args .s .complexity < 3
-  few = omega (arith, accepted _ (start .pre .0) .complexity)
+  few = omega (arith, accepted-settings _ (start .pre .0) .complexity)
 
   abbrev first : Stage1
   first = stage1 (start .args .f .now) (start .args .s .nb) (start .args .s .complexity) (start .args .s .thres1)
@@ -35,16 +35,16 @@ module _ (c : tie.After-silk-stage1) where
   abbrev lags : List ℕ
   lags = kept (start .args .f .now) (start .args .s .nb) (start .args .s .complexity) (start .args .s .thres1)
 
-  answer : c .silk-stage1 .result ≡ first
-  answer = c .silk-stage1 .ensures .0 ∙ ap (stage1 (start .args .f .now) (start .args .s .nb) (start .args .s .complexity)) (r-elem w32 (start .args .s .thres1) (c .before .struct-told .given .1 .1 .1 .0 .1) .val)
+  answer : c .search-stage1 .result ≡ first
+  answer = c .search-stage1 .ensures .0 ∙ ap (stage1 (start .args .f .now) (start .args .s .nb) (start .args .s .complexity)) (r-elem w32 (start .args .s .thres1) (c .before .struct-told .given .1 .1 .1 .0 .1) .val)
 
-  size : length (c .silk-stage1 .result .lags) ≡ 8
+  size : length (c .search-stage1 .result .lags) ≡ 8
   size = ap (λ (a : Stage1). length (a .lags)) answer ∙ answer-size (start .args .f .now) (start .args .s .nb) (start .args .s .complexity) (start .args .s .thres1) few
 
-  count-le : c .silk-stage1 .result .count ≤ 8
+  count-le : c .search-stage1 .result .count ≤ 8
   count-le = subst (λ (a : Stage1). a .count ≤ 8) (sym answer) (answer-count (start .args .f .now) (start .args .s .nb) (start .args .s .complexity) (start .args .s .thres1) few)
 
-  front : c .silk-stage1 .result .screen ≡ Goes → take (c .silk-stage1 .result .count) (c .silk-stage1 .result .lags) ≡ lags
+  front : c .search-stage1 .result .screen ≡ Goes → take (c .search-stage1 .result .count) (c .search-stage1 .result .lags) ≡ lags
   front e =
       ap (λ (a : Stage1). take (a .count) (a .lags)) answer
       ∙ answer-kept (start .args .f .now) (start .args .s .nb) (start .args .s .complexity) (start .args .s .thres1) few (ap (λ (a : Stage1). a .screen) (sym answer) ∙ e)
@@ -57,14 +57,14 @@ module _ (c : tie.After-silk-stage1) where
   }
 
   -- the verdict by the screen
-  by : (x : Screen) → c .silk-stage1 .result .screen ≡ x
+  by : (x : Screen) → c .search-stage1 .result .screen ≡ x
       → from-screen (start .args .s) (start .args .w .now) (start .args .e .now) (start .args .f .now) (start .args .prev-lag) (start .args .prev-corr) x
       ≡ from-screen (start .args .s) (start .args .w .now) (start .args .e .now) (start .args .f .now) (start .args .prev-lag) (start .args .prev-corr) (first .screen)
   by x e = ap (from-screen (start .args .s) (start .args .w .now) (start .args .e .now) (start .args .f .now) (start .args .prev-lag) (start .args .prev-corr)) (sym e ∙ ap (λ (a : Stage1). a .screen) answer)
 
-silk-stage1-requires : tie.Need-silk-stage1-requires
-silk-stage1-requires c κs =
-    let a = accepted _ (c .before .pre .0) in
+search-stage1-requires : tie.Need-search-stage1-requires
+search-stage1-requires c κs =
+    let a = accepted-settings _ (c .before .pre .0) in
     record { subframes = a .subframes; complexity = omega (arith, a .complexity); long = omega (arith, c .before .pre .1 .1 .1) }
 
 enum-told : tie.Need-enum-told
@@ -82,7 +82,7 @@ array-share-prefix-lags c = let d = c .before .before .before in omega (arith, s
 slice-aggregate-second-stage : tie.Need-slice-aggregate-second-stage
 slice-aggregate-second-stage c =
     let d = c .before .before .before .before in
-    sym (length-take-le (d .silk-stage1 .result .count) (d .silk-stage1 .result .lags) (omega (arith, size d, count-le d)))
+    sym (length-take-le (d .search-stage1 .result .count) (d .search-stage1 .result .lags) (omega (arith, size d, count-le d)))
 
 second-stage-requires : tie.Need-second-stage-requires
 second-stage-requires c κs =
@@ -107,4 +107,4 @@ returns-3 c =
     ∙ by d Goes e
 
 pub stages-spec : {M : Type 1} → statement M
-stages-spec = tie.close (tie.spec silk-stage1-requires enum-told enum-told-2 enum-told-3 array-share-prefix-lags slice-aggregate-second-stage second-stage-requires returns returns-2 returns-3)
+stages-spec = tie.close (tie.spec search-stage1-requires enum-told enum-told-2 enum-told-3 array-share-prefix-lags slice-aggregate-second-stage second-stage-requires returns returns-2 returns-3)

@@ -4,8 +4,8 @@ use native.Mathlib.Omega.{arith}
 use lib.IntN.{ℤ, natAbs}
 use mir.Syntax.{w32, w64}
 use mir.Val.{toZ, ofZ}
-use Rattle.zint.specs.Read.{r-got, as-unsigned}
-use Rattle.zint.specs.Rules.{zneeds}
+use Rattle.zint.specs.ReadLaws.{r-got, as-unsigned}
+use Rattle.zint.specs.RuleLaws.{zneeds}
 use Rattle.silk_tables.specs.CarriedLaws.{Carried as CarriedPair, contour-abs}
 use Rattle.silk_tables.specs.Rebuild.{Coded, rebuilt}
 use Rattle.silk_pitch_analysis.specs.declared.Verdict.{Verdict}

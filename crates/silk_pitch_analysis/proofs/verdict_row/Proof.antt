@@ -2,8 +2,8 @@
 use mathlib.Core.Path.{_≡_}
 use mir.Syntax.{w32}
 use mir.Val.{toZ, ofZ}
-use Rattle.zint.specs.Read.{r-got}
-use Rattle.zint.specs.Rules.{zneeds}
+use Rattle.zint.specs.ReadLaws.{r-got}
+use Rattle.zint.specs.RuleLaws.{zneeds}
 use Rattle.silk_pitch_analysis.specs.Frame.{row-lag, row-from}
 use Rattle.silk_pitch_analysis.proofs.verdict_row.Statement.{statement}
 use Rattle.silk_pitch_analysis.proofs.verdict_row.Tie as tie

@@ -2,9 +2,9 @@
 use native.Mathlib.Omega.{arith}
 use Prim.Native.Nat.{_*_}
 use mir.Syntax.{w32}
-use Rattle.zint.specs.Diff.{n, _⊖_, sfits-by}
-use Rattle.zint.specs.Read.{r-nat, r-var, r-sub, f-sub}
-use Rattle.zint.specs.Rules.{zneeds}
+use Rattle.zint.specs.DiffLaws.{n, _⊖_, sfits-by}
+use Rattle.zint.specs.ReadLaws.{r-nat, r-var, r-sub, f-sub}
+use Rattle.zint.specs.RuleLaws.{zneeds}
 use Rattle.silk_pitch_analysis.specs.declared.Verdict.the-variants.{Voiced}
 use Rattle.silk_pitch_analysis.proofs.voiced.Statement.{statement}
 use Rattle.silk_pitch_analysis.proofs.voiced.Tie as tie

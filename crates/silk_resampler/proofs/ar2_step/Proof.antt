@@ -2,8 +2,8 @@
 use mathlib.Core.Path.{_∙_}
 use lib.IntN.{ℤ, _+ℤ_}
 use mir.Syntax.{w32}
-use Rattle.zint.specs.Read.{r-var, r-lit, r-as, r-call2, r-call3, r-shl, wide-32}
-use Rattle.zint.specs.Rules.{zneeds}
+use Rattle.zint.specs.ReadLaws.{r-var, r-lit, r-as, r-call2, r-call3, r-shl, wide-32}
+use Rattle.zint.specs.RuleLaws.{zneeds}
 use Rattle.zint.specs.Wrap.{wrap}
 use Rattle.zint.specs.WrapLaws.{wraps}
 use Rattle.silk_macros.specs.Macros.{smlawb}

@@ -4,9 +4,10 @@ use mathlib.Core.Path.{_≡_, refl, ap, _∙_}
 use native.Mathlib.Omega.{arith}
 use lib.ListN.{length, length-set}
 use mir.Syntax.{w16}
-use Rattle.zint.specs.Read.{r-got}
-use Rattle.zint.specs.Rules.{zneeds}
-use Rattle.lists.specs.Fill.{filled, filled-none, filled-turn}
+use Rattle.zint.specs.ReadLaws.{r-got}
+use Rattle.zint.specs.RuleLaws.{zneeds}
+use Rattle.lists.specs.Fill.{filled}
+use Rattle.lists.specs.FillLaws.{filled-none, filled-turn}
 use Rattle.lists.specs.Signal.{sample}
 use Rattle.silk_resampler.specs.Down23.{source-filter, decimated}
 use Rattle.silk_resampler.specs.Down23Laws.{decimated-even, decimated-odd}

@@ -1,7 +1,7 @@
 -- `silk_resampler::odd_output` meets its contract.
 use mir.Syntax.{w16}
-use Rattle.zint.specs.Read.{r-got}
-use Rattle.zint.specs.Rules.{zneeds}
+use Rattle.zint.specs.ReadLaws.{r-got}
+use Rattle.zint.specs.RuleLaws.{zneeds}
 use Rattle.silk_resampler.specs.Down23.{source-filter, rounded, odd-out}
 use Rattle.silk_resampler.proofs.odd_output.Statement.{statement}
 use Rattle.silk_resampler.proofs.odd_output.Tie as tie

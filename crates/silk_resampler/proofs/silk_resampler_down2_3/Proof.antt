@@ -6,7 +6,7 @@ use native.Mathlib.Omega.{arith}
 use borrow.Rule.Slice.PartMut.{putMid, same-len-mid}
 use lib.IntN.{ℤ, pos, negsuc}
 use lib.ListN.{length, take, drop, replicate, length-replicate}
-use Rattle.zint.specs.Rules.{zneeds}
+use Rattle.zint.specs.RuleLaws.{zneeds}
 use Rattle.lists.specs.Fill.{filled}
 use Rattle.lists.specs.Signal.{sample}
 use Rattle.silk_resampler.specs.Down23.{States, source-filter, ar2-states, filtered, states-of, with-states, buffer, down2-3-states}

@@ -7,9 +7,10 @@ use lib.IntN.{ℤ}
 use lib.ListN.{length, drop, length-set}
 use mir.Syntax.{w16, w32}
 use mir.Val.{toZ}
-use Rattle.zint.specs.Read.{r-elem, wide-32}
-use Rattle.zint.specs.Rules.{zneeds}
-use Rattle.lists.specs.Fill.{filled, filled-none, filled-turn}
+use Rattle.zint.specs.ReadLaws.{r-elem, wide-32}
+use Rattle.zint.specs.RuleLaws.{zneeds}
+use Rattle.lists.specs.Fill.{filled}
+use Rattle.lists.specs.FillLaws.{filled-none, filled-turn}
 use Rattle.lists.specs.Signal.{sample}
 use Rattle.silk_resampler.specs.Down23.{source-filter, ar2-out, feedback, first-next, ar2-states, filtered, states-of, with-states}
 use Rattle.silk_resampler.specs.Down2Laws.{kept, set-two}

@@ -7,11 +7,11 @@ use lib.IntN.{ℤ, pos}
 use lib.ListN.{drop}
 use mir.Syntax.{w32}
 use Rattle.zint.specs.Wrap.{wrap}
-use Rattle.zint.specs.Read.{r-var, r-got}
-use Rattle.lists.specs.Fill.{tail-part}
+use Rattle.zint.specs.ReadLaws.{r-var, r-got}
+use Rattle.lists.specs.FillLaws.{tail-part}
 use Rattle.silk_sigproc.specs.Dot.{dot}
 use Rattle.stage2_correlations.specs.Rows.{ratio-of, at-lag}
-use Rattle.zint.specs.Rules.{zneeds}
+use Rattle.zint.specs.RuleLaws.{zneeds}
 use Rattle.stage2_correlations.proofs.correlate.Statement.{statement}
 use Rattle.stage2_correlations.proofs.correlate.Tie as tie
 

@@ -3,13 +3,13 @@ use mathlib.Core.Path.{_≡_, sym, ap, ap₂, _∙_}
 use mathlib.Core.Bool.{true, false}
 use lib.IntN.{ℤ, pos}
 use lib.Signed.{ltZ}
-use Rattle.zint.specs.Read.{r-var, r-got, t-above}
+use Rattle.zint.specs.ReadLaws.{r-var, r-got, t-above}
 use Rattle.zint.specs.Wrap.{wrap}
 use mir.Syntax.{w16, w32}
 use mir.Val.{toZ, ofZ}
 use Rattle.silk_macros.specs.Divide.{quotient}
 use Rattle.stage2_correlations.specs.RowLaws.{ratio-none, ratio-value, ratio-zero}
-use Rattle.zint.specs.Rules.{zneeds}
+use Rattle.zint.specs.RuleLaws.{zneeds}
 use Rattle.stage2_correlations.proofs.divide.Statement.{statement}
 use Rattle.stage2_correlations.proofs.divide.Tie as tie
 

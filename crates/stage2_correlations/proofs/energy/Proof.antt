@@ -4,11 +4,11 @@ use mathlib.Core.List.{List}
 use lib.IntN.{ℤ}
 use mir.Syntax.{w32}
 use Rattle.zint.specs.Wrap.{wrap}
-use Rattle.zint.specs.Read.{r-got}
-use Rattle.lists.specs.Fill.{tail-part}
+use Rattle.zint.specs.ReadLaws.{r-got}
+use Rattle.lists.specs.FillLaws.{tail-part}
 use Rattle.silk_sigproc.specs.Dot.{dot}
 use Rattle.stage2_correlations.specs.Rows.{energy-from}
-use Rattle.zint.specs.Rules.{zneeds}
+use Rattle.zint.specs.RuleLaws.{zneeds}
 use Rattle.stage2_correlations.proofs.energy.Statement.{statement}
 use Rattle.stage2_correlations.proofs.energy.Tie as tie
 

@@ -2,7 +2,7 @@
 use mathlib.Core.Path.{sym, _∙_}
 use Rattle.stage2_correlations.specs.Marks.{measured}
 use Rattle.stage2_correlations.specs.MarkLaws.{too-low, too-high, inside}
-use Rattle.zint.specs.Rules.{zneeds}
+use Rattle.zint.specs.RuleLaws.{zneeds}
 use Rattle.stage2_correlations.proofs.is_measured.Statement.{statement}
 use Rattle.stage2_correlations.proofs.is_measured.Tie as tie
 

@@ -8,7 +8,7 @@ use Rattle.stage2_correlations.specs.Marks.{mark-near}
 use Rattle.stage2_correlations.specs.MarkLaws.{mark-yes, mark-later, mark-earlier, near-yes, near-no}
 use borrow.Author.Count.{below-more}
 use mathlib.Core.Logic.{⊎-elim}
-use Rattle.zint.specs.Rules.{zneeds}
+use Rattle.zint.specs.RuleLaws.{zneeds}
 use Rattle.stage2_correlations.proofs.is_near.Statement.{statement}
 use Rattle.stage2_correlations.proofs.is_near.Tie as tie
 

@@ -5,9 +5,10 @@ use Prim.Native.Nat.{ℕ, _+_, _-_, _≤_}
 use lib.Dec.{lit≤}
 use lib.ListN.{replicate}
 use native.Mathlib.Omega.{arith}
-use Rattle.lists.specs.Fill.{filled, filled-none, filled-turn, filled-all}
+use Rattle.lists.specs.Fill.{filled}
+use Rattle.lists.specs.FillLaws.{filled-none, filled-turn, filled-all}
 use Rattle.stage2_correlations.specs.Marks.{measured}
-use Rattle.zint.specs.Rules.{zneeds}
+use Rattle.zint.specs.RuleLaws.{zneeds}
 use Rattle.stage2_correlations.proofs.measured_lags.Statement.{statement}
 use Rattle.stage2_correlations.proofs.measured_lags.Tie as tie
 

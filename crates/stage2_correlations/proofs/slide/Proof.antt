@@ -4,8 +4,8 @@ use lib.IntN.{ℤ, _+ℤ_, _-ℤ_, _*ℤ_}
 use mir.Syntax.{w32}
 use Rattle.zint.specs.Wrap.{wrap}
 use Rattle.zint.specs.WrapLaws.{wraps}
-use Rattle.zint.specs.Read.{r-var, r-call1, r-call2}
-use Rattle.zint.specs.Rules.{zneeds}
+use Rattle.zint.specs.ReadLaws.{r-var, r-call1, r-call2}
+use Rattle.zint.specs.RuleLaws.{zneeds}
 use Rattle.stage2_correlations.proofs.slide.Statement.{statement}
 use Rattle.stage2_correlations.proofs.slide.Tie as tie
 

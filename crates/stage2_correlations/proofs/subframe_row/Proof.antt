@@ -10,14 +10,15 @@ use lib.ListN.{getD, replicate}
 use mir.Syntax.{w16, w32}
 use mir.Val.{toZ, ofZ}
 use Rattle.zint.specs.Wrap.{wrap}
-use Rattle.zint.specs.Read.{Reads, r-got, r-elem, r-lit, r-call2}
-use Rattle.lists.specs.Fill.{filled, filled-none, filled-turn, filled-all}
+use Rattle.zint.specs.ReadLaws.{Reads, r-got, r-elem, r-lit, r-call2}
+use Rattle.lists.specs.Fill.{filled}
+use Rattle.lists.specs.FillLaws.{filled-none, filled-turn, filled-all}
 use Rattle.best.specs.Best.{some}
 use Rattle.stage2_correlations.specs.declared.Ratio.{Ratio}
 use Rattle.stage2_correlations.specs.Correlations.{target as start-of, divisor}
 use Rattle.stage2_correlations.specs.Rows.{energy-from, value-at, zero-at, row}
 use Rattle.stage2_correlations.specs.RowLaws.{norm-is, energy-back, at-lag-is, some-more, some-same}
-use Rattle.zint.specs.Rules.{zneeds}
+use Rattle.zint.specs.RuleLaws.{zneeds}
 use Rattle.stage2_correlations.proofs.subframe_row.Statement.{statement}
 use Rattle.stage2_correlations.proofs.subframe_row.Tie as tie
 

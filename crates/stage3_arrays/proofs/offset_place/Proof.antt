@@ -2,9 +2,9 @@
 use mathlib.Core.Path.{ap, _∙_}
 use lib.IntN.{ℤ, natAbs, _-ℤ_}
 use mir.Syntax.{w8, w32, w64}
-use Rattle.zint.specs.Bound.{widen}
-use Rattle.zint.specs.Read.{Reads, r-var, r-cast, f-cast, r-sub, f-sub, as-unsigned}
-use Rattle.zint.specs.Shift.{nonneg-abs}
+use Rattle.zint.specs.BoundLaws.{widen}
+use Rattle.zint.specs.ReadLaws.{Reads, r-var, r-cast, f-cast, r-sub, f-sub, as-unsigned}
+use Rattle.zint.specs.ShiftLaws.{nonneg-abs}
 use native.Mathlib.Omega.{arith}
 use Rattle.stage3_arrays.proofs.offset_place.Statement.{statement}
 use Rattle.stage3_arrays.proofs.offset_place.Tie as tie

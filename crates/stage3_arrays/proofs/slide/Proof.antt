@@ -2,11 +2,11 @@
 use Prim.Native.Nat.{_+_, _-_, _*_}
 use lib.IntN.{ℤ, _+ℤ_, _-ℤ_, _*ℤ_}
 use mir.Syntax.{w32}
-use Rattle.zint.specs.Read.{r-var, r-call1, r-call2}
+use Rattle.zint.specs.ReadLaws.{r-var, r-call1, r-call2}
 use Rattle.zint.specs.Wrap.{wrap}
 use Rattle.stage3_arrays.specs.Arrays.{step}
 use Rattle.zint.specs.Clamp.{sat}
-use Rattle.zint.specs.Rules.{zneeds}
+use Rattle.zint.specs.RuleLaws.{zneeds}
 use Rattle.stage3_arrays.proofs.slide.Statement.{statement}
 use Rattle.stage3_arrays.proofs.slide.Tie as tie
 

@@ -6,9 +6,10 @@ use lib.IntN.{ℤ, pos, natAbs, _-ℤ_}
 use lib.ListN.{getD, replicate}
 use mir.Syntax.{w8, w32}
 use mir.Val.{toZ, ofZ}
-use Rattle.zint.specs.Read.{r-elem, r-var}
-use Rattle.zint.specs.Rules.{zneeds}
-use Rattle.lists.specs.Fill.{table, filled, filled-none, filled-turn}
+use Rattle.zint.specs.ReadLaws.{r-elem, r-var}
+use Rattle.zint.specs.RuleLaws.{zneeds}
+use Rattle.lists.specs.Fill.{tabulate, filled}
+use Rattle.lists.specs.FillLaws.{filled-none, filled-turn}
 use Rattle.stage3_arrays.specs.Arrays.{rows, Placed}
 use native.Mathlib.Omega.{arith}
 use Rattle.stage3_arrays.proofs.spread.Statement.{statement}
@@ -16,7 +17,7 @@ use Rattle.stage3_arrays.proofs.spread.Tie as tie
 
 -- contour j's five places
 abbrev five-of : List ℤ → List ℤ → ℤ → ℕ → List ℤ
-five-of mem offsets low j = table (λ (m : ℕ). getD mem (natAbs (getD offsets j (pos 0) -ℤ low) + m) (pos 0)) 5
+five-of mem offsets low j = tabulate (λ (m : ℕ). getD mem (natAbs (getD offsets j (pos 0) -ℤ low) + m) (pos 0)) 5
 
 abbrev Inv-loop : tie.InvT-loop
 Inv-loop scratch-mem offsets low count by-lag₀ i₀ by-lag i = (i ≤ count) × (by-lag ≡ filled (five-of scratch-mem offsets (toZ w32 low)) i (replicate 34 (replicate 5 (pos 0))))
@@ -59,7 +60,7 @@ loop-again c =
     let s = c .before .before .before .before in
     let a = s .before .args in
     let i = s .loop .i in
-    let v = c .five .ensures ∙ ap (λ (p : ℕ). table (λ (m : ℕ). getD (a .scratch-mem .now) (p + m) (pos 0)) 5) (c .before .offset-place .ensures ∙ ap (λ (x : ℤ). natAbs (x -ℤ toZ w32 (ofZ w32 (a .low)))) (offset-read (c .before .before))) in (
+    let v = c .five .ensures ∙ ap (λ (p : ℕ). tabulate (λ (m : ℕ). getD (a .scratch-mem .now) (p + m) (pos 0)) 5) (c .before .offset-place .ensures ∙ ap (λ (x : ℤ). natAbs (x -ℤ toZ w32 (ofZ w32 (a .low)))) (offset-read (c .before .before))) in (
       omega arith,
       filled-turn (five-of (a .scratch-mem .now) (a .offsets .now) (toZ w32 (ofZ w32 (a .low)))) i (replicate 34 (replicate 5 (pos 0))) (s .loop .inv .1) v (omega arith),
     )

@@ -1,5 +1,4 @@
 -- `track_run::deliver_parts` meets its contract. The invariant: the whole chain leaves what the rest of it leaves from here, with i answers before it.
---
 use borrow.Author.Needs.{needs}
 use mathlib.Core.Path.{_≡_, refl, sym, ap, subst, _∙_}
 use mathlib.Core.List.{List}
@@ -8,7 +7,7 @@ use native.Mathlib.Omega.{arith}
 use lib.IntN.{ℤ}
 use lib.ListN.{length, take, drop, getD, length-set, length-drop}
 use lib.Seq.{drop-drop}
-use Rattle.track_run.specs.Chain.{Left, chainOf, partsOf}
+use Rattle.track_run.specs.Chain.{Left, chain, parts}
 use Rattle.track_run.proofs.Ahead.{Ahead, ahead-none, ahead-all, chain-none, turn, take-min, drop-min}
 use Rattle.track_run.proofs.deliver_parts.Statement.{statement}
 use Rattle.track_run.proofs.deliver_parts.Tie as tie
@@ -19,7 +18,7 @@ Inv-loop track₀ samples cuts table₀ said₀ at₀ i₀ track table said at i
     × (at ≤ length samples)
     × (length table ≡ length table₀)
     × (length said ≡ length said₀)
-    × Ahead (chainOf track₀ table₀ (partsOf cuts samples)) said i (chainOf track table (partsOf (drop i cuts) (drop at samples)))
+    × Ahead (chain track₀ table₀ (parts cuts samples)) said i (chain track table (parts (drop i cuts) (drop at samples)))
 
 abbrev μ-loop : tie.MeasureT-loop
 μ-loop track₀ samples cuts table₀ said₀ at₀ i₀ track table said at i = length cuts - i
@@ -112,7 +111,7 @@ returns c =
     let s = c .before .before .before .before in
     let a = s .args in
     let l = c .before .loop in
-    let whole : Left = chainOf (a .track) (a .table .now) (partsOf (a .cuts .now) (a .samples .now)) in
+    let whole : Left = chain (a .track) (a .table .now) (parts (a .cuts .now) (a .samples .now)) in
     let o = ahead-all whole (l .said) (l .track) (l .table) (l .i) (omega (arith, l .inv .3, s .pre, c .loop-test .left))
     (subst (λ (b : Left). Ahead whole (l .said) (l .i) b) (chain-none (a .cuts .now) (l .i) (c .loop-test .left) (l .track) (l .table) (drop (l .at) (a .samples .now))) (l .inv .4)) in
     (o .0, (o .1 .0, o .1 .1))

@@ -1,5 +1,4 @@
 -- `track_run::run` meets its contract: with settings that are accepted it is the chain of the deliveries that have a place, and else the start alone.
---
 use borrow.Author.Needs.{needs}
 use mathlib.Core.Path.{_≡_, sym, ap, _∙_}
 use mathlib.Core.List.{List, _++_}
@@ -11,9 +10,9 @@ use lib.Seq.{length-take-le}
 use Rattle.pitch_settings.specs.Settings.{settings-no}
 use Rattle.pitch_track.specs.declared.Started.{Started}
 use Rattle.pitch_track.specs.declared.Answer.{Answer}
-use Rattle.pitch_track.specs.Step.{numberOf}
+use Rattle.pitch_track.specs.Step.{answer-no}
 use Rattle.pitch_track.proofs.Deliver.{start-number}
-use Rattle.track_run.specs.Chain.{Left, numbersOf, chainOf, partsOf, runOf, deliveriesOf}
+use Rattle.track_run.specs.Chain.{Left, answer-nos, chain, parts, run-from-start, deliveries}
 use Rattle.track_run.proofs.Ahead.{take-min, made-parts, length-made, ran, ends, refused}
 use Rattle.track_run.proofs.run.Statement.{statement}
 use Rattle.track_run.proofs.run.Tie as tie
@@ -22,7 +21,7 @@ use Rattle.track_run.proofs.run.Tie as tie
 number-is : (c : tie.After-number) → c .number .result ≡ settings-no (c .before .before .before .before .before .args .s)
 number-is c =
     let s = c .before .before .before .before .before in
-    c .number .ensures ∙ ap (λ (r : Started). numberOf (r .answer)) (c .before .before .start .ensures .0) ∙ start-number (s .args .s)
+    c .number .ensures ∙ ap (λ (r : Started). answer-no (r .answer)) (c .before .before .start .ensures .0) ∙ start-number (s .args .s)
 
 start-requires : tie.Need-start-requires
 start-requires c κs = search needs
@@ -55,7 +54,7 @@ module _ (c : tie.After-lesser) where
   ok = omega (arith, number-is (c .before .before), c .before .if1 .left)
 
   abbrev made : List (List ℤ)
-  made = deliveriesOf (start .args .s) (start .args .cuts .now) (start .args .samples .now) (length (start .args .said .now))
+  made = deliveries (start .args .s) (start .args .cuts .now) (start .args .samples .now) (length (start .args .said .now))
 
   places : n ≤ length (start .args .said .now)
   places = omega (arith, c .lesser .ensures)
@@ -66,14 +65,14 @@ module _ (c : tie.After-lesser) where
   all : n ≡ length made
   all = c .lesser .ensures ∙ sym (length-made (start .args .s) (start .args .table .now) (start .args .cuts .now) (start .args .samples .now) (start .args .said .now) ok)
 
-  parts : partsOf (take n (start .args .cuts .now)) (start .args .samples .now) ≡ made
-  parts =
-      ap (λ (l : List ℕ). partsOf l (start .args .samples .now)) (ap (λ (m : ℕ). take m (start .args .cuts .now)) (c .lesser .ensures) ∙ take-min (length (start .args .said .now)) (start .args .cuts .now))
+  parts-are : parts (take n (start .args .cuts .now)) (start .args .samples .now) ≡ made
+  parts-are =
+      ap (λ (l : List ℕ). parts l (start .args .samples .now)) (ap (λ (m : ℕ). take m (start .args .cuts .now)) (c .lesser .ensures) ∙ take-min (length (start .args .said .now)) (start .args .cuts .now))
       ∙ sym (made-parts (start .args .s) (start .args .table .now) (start .args .cuts .now) (start .args .samples .now) (start .args .said .now) ok)
 
   -- the chain of them
-  chain : chainOf (c .before .before .before .before .start .result .track) (start .args .table .now) (partsOf (take n (start .args .cuts .now)) (start .args .samples .now)) ≡ runOf (start .args .s) (start .args .table .now) made
-  chain = λ i. chainOf (c .before .before .before .before .start .ensures .0 i .track) (start .args .table .now) (parts i)
+  chain-is : chain (c .before .before .before .before .start .result .track) (start .args .table .now) (parts (take n (start .args .cuts .now)) (start .args .samples .now)) ≡ run-from-start (start .args .s) (start .args .table .now) made
+  chain-is = λ i. chain (c .before .before .before .before .start .ensures .0 i .track) (start .args .table .now) (parts-are i)
 
 slice-aggregate-deliver-parts : tie.Need-slice-aggregate-deliver-parts
 slice-aggregate-deliver-parts c = sym (length-take-le _ _ (cuts (c .before)))
@@ -105,9 +104,9 @@ returns-2 c =
     let o = p .deliver-parts .ensures in
     let begun = k .before .before .before .before .start .ensures in
     let e = ap (λ (r : Started). r .answer) (begun .0) in
-    let track = o .0 ∙ ap (λ (l : Left). l .track) (chain k) in
-    let numbers = o .1 .0 ∙ ap (λ (l : Left). numbersOf (l .said)) (chain k) in
-    let table = o .1 .1 ∙ ap (λ (l : Left). l .table) (chain k) in (
+    let track = o .0 ∙ ap (λ (l : Left). l .track) (chain-is k) in
+    let numbers = o .1 .0 ∙ ap (λ (l : Left). answer-nos (l .said)) (chain-is k) in
+    let table = o .1 .1 ∙ ap (λ (l : Left). l .table) (chain-is k) in (
       ran (a .s) (a .table .now) (a .cuts .now) (a .samples .now) (a .said .now) (ok k) (n k) (all k) _ _ _ e track numbers table,
       (ends (a .s) (a .table .now) (a .cuts .now) (a .samples .now) (a .said .now) (ok k) (n k) (all k) _ _ _ e track numbers table, begun .1),
     )

@@ -3,7 +3,7 @@ use mathlib.Core.Path.{ap₂, _∙_}
 use Prim.Native.Nat.{ℕ, _+_, _*_}
 use native.Mathlib.Omega.{arith}
 use lib.Dec.{leb}
-use Rattle.pitch_settings.specs.SettingsLaws.{accepted}
+use Rattle.pitch_settings.specs.SettingsLaws.{accepted-settings}
 use Rattle.track_text.specs.ProgramLaws.{hop-small, long-is}
 use Rattle.track_text.proofs.is_long.Statement.{statement}
 use Rattle.track_text.proofs.is_long.Tie as tie
@@ -19,7 +19,7 @@ frame-length-requires c κs = c .before .pre
 
 add-result : tie.Need-add-result
 add-result c =
-    omega (arith, c .before .hop-length .ensures, c .frame-length .ensures, hop-small _ (c .before .before .pre), accepted _ (c .before .before .pre) .small)
+    omega (arith, c .before .hop-length .ensures, c .frame-length .ensures, hop-small _ (c .before .before .pre), accepted-settings _ (c .before .before .pre) .small)
 
 returns : tie.Need-returns
 returns c =

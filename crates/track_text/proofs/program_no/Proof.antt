@@ -7,14 +7,14 @@ use lib.ListN.{length}
 use Rattle.pitch_settings.specs.declared.Settings.{Settings}
 use Rattle.pitch_settings.specs.Settings.{settings-no}
 use Rattle.pitch_track.specs.Paper.{F}
-use Rattle.track_text.specs.Program.{first-no}
-use Rattle.pitch_input.specs.Input.{settings-in}
+use Rattle.track_text.specs.Program.{first-program-refusal}
+use Rattle.pitch_input.specs.Input.{input-settings}
 use Rattle.track_text.specs.ProgramLaws.{no-short, no-wrong, no-more, no-all}
 use Rattle.track_text.proofs.program_no.Statement.{statement}
 use Rattle.track_text.proofs.program_no.Tie as tie
 
 -- the settings' number
-number : (c : tie.After-settings-no) → c .settings-no .result ≡ settings-no (settings-in (c .before .before .before .before .args .input .now))
+number : (c : tie.After-settings-no) → c .settings-no .result ≡ settings-no (input-settings (c .before .before .before .before .args .input .now))
 number c = c .settings-no .ensures ∙ ap settings-no (c .before .settings-in .ensures)
 
 returns : tie.Need-returns
@@ -39,7 +39,7 @@ returns-4 c rest e =
     let s = c .before .before .before .before .before .before .before .before in
     let d = c .before .before .before .before in
     c .first-no3 .ensures
-    ∙ ap (first-no (eqb ((length (s .args .input .now) - 11 + s .args .more % 2) % 2) 1) 0) (c .before .is-long .ensures ∙ ap (λ (t : Settings). ltb 1024 (F t ((length (s .args .input .now) - 11) / 2))) (d .before .settings-in .ensures))
+    ∙ ap (first-program-refusal (eqb ((length (s .args .input .now) - 11 + s .args .more % 2) % 2) 1) 0) (c .before .is-long .ensures ∙ ap (λ (t : Settings). ltb 1024 (F t ((length (s .args .input .now) - 11) / 2))) (d .before .settings-in .ensures))
     ∙ no-all (s .args .input .now) rest (s .args .more) e (s .pre) (d .before .before .if1 .left) (sym (number d) ∙ c .before .before .before .if2 .left) (c .before .before .if3 .left)
 
 pub program-no-spec : {M : Type 1} → statement M

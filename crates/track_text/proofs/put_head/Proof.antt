@@ -5,7 +5,7 @@ use native.Mathlib.Omega.{arith}
 use lib.ListN.{length, length-set}
 use Rattle.pitch_text.specs.DecimalLaws.{digits-word}
 use Rattle.pitch_text.specs.TextLaws.{put-then, put-byte}
-use Rattle.track_text.specs.Program.{head-text}
+use Rattle.track_text.specs.Program.{track-head}
 use Rattle.track_text.proofs.put_head.Statement.{statement}
 use Rattle.track_text.proofs.put_head.Tie as tie
 
@@ -46,7 +46,7 @@ same-length : tie.Need-same-length
 same-length c = simp length-set (kept (c .before .before))
 
 returns : tie.Need-returns
-unfolding head-text
+unfolding track-head
 returns c =
     let d = c .before .before .before .before .before .before in
     let e = c .before .before in

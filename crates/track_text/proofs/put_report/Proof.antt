@@ -3,11 +3,11 @@ use mathlib.Core.Path.{ap, ap₂, _∙_}
 use Prim.Native.Nat.{_≤_}
 use native.Mathlib.Omega.{arith}
 use lib.ListN.{length}
-use Rattle.pitch_settings.specs.SettingsLaws.{accepted}
-use Rattle.pitch_track.specs.Paper.{rowAt, nothing}
+use Rattle.pitch_settings.specs.SettingsLaws.{accepted-settings}
+use Rattle.pitch_track.specs.Paper.{paper-row, no-previous}
 use Rattle.pitch_text.specs.Text.{lines-text}
 use Rattle.pitch_text.specs.TextLaws.{put-then, put-as, lines-same}
-use Rattle.track_text.specs.Program.{head-text, report}
+use Rattle.track_text.specs.Program.{track-head, track-report}
 use Rattle.track_text.specs.ProgramLaws.{few-samples, left-within, tracked-row}
 use Rattle.track_text.proofs.put_report.Statement.{statement}
 use Rattle.track_text.proofs.put_report.Tie as tie
@@ -37,7 +37,7 @@ put-lines-requires c κs =
     let s = c .before .before .before .before .before .before .before .before .before .before .before in
     let d = c .before .before .before .before .before .before .before .before in
     let h = c .before .before .before .before .put-head in (
-      accepted (s .args .s) (s .pre .0) .nb-high,
+      accepted-settings (s .args .s) (s .pre .0) .nb-high,
       omega (arith, few d),
       omega (arith, few d, d .track-rows .kept .1 .1 .0, s .pre .2),
       omega (arith, few d, h .ensures .1, h .kept .0, s .pre .3),
@@ -50,7 +50,7 @@ same-length-2 : tie.Need-same-length-2
 same-length-2 c = c .before .before .put-lines .kept .0 ∙ c .before .before .before .before .before .before .before .put-head .kept .0
 
 returns : tie.Need-returns
-unfolding report
+unfolding track-report
 returns c =
     let s = c .before .before .before .before .before .before .before .before .before .before .before .before .before .before in
     let d = c .before .before .before .before .before .before .before .before .before .before .before in
@@ -59,8 +59,8 @@ returns c =
     let h = c .before .before .before .before .before .before .before .put-head .ensures in
     let l = c .before .before .put-lines .ensures in
     let t = d .track-rows .ensures in
-    let e = ap₂ head-text (t .count) (c .before .before .before .before .before .before .before .before .before .samples-left .ensures) in
-    let g = lines-same nb _ (rowAt (s .args .s) (s .args .x .now) nothing) _ (tracked-row _ _ _ _ _ t) ∙ ap (lines-text nb (rowAt (s .args .s) (s .args .x .now) nothing)) (t .count) in
+    let e = ap₂ track-head (t .count) (c .before .before .before .before .before .before .before .before .before .samples-left .ensures) in
+    let g = lines-same nb _ (paper-row (s .args .s) (s .args .x .now) no-previous) _ (tracked-row _ _ _ _ _ t) ∙ ap (lines-text nb (paper-row (s .args .s) (s .args .x .now) no-previous)) (t .count) in
     (put-then (put-as (h .0) e) (put-as (l .0) g), omega (arith, l .1, h .1, few d), t .rows)
 
 pub put-report-spec : {M : Type 1} → statement M

@@ -6,11 +6,11 @@ use native.Mathlib.Omega.{arith}
 use lib.ListN.{length, take, drop, length-append, length-drop}
 use lib.Seq.{length-take-le}
 use Rattle.pitch_settings.specs.Settings.{settings-no}
-use Rattle.lists.specs.Push.{headed}
+use Rattle.lists.specs.Fill.{overwritten}
 use Rattle.pitch_input.specs.InputLaws.{loaded, loaded-over}
-use Rattle.pitch_track.specs.Paper.{tableOf}
+use Rattle.pitch_track.specs.Paper.{paper-table}
 use Rattle.pitch_text.specs.TextLaws.{put-as, put-count, put-over}
-use Rattle.track_text.specs.Program.{samples-in, program-no, report, answered, printedOf}
+use Rattle.track_text.specs.Program.{samples-in, program-no, track-report, answered, track-text-call}
 use Rattle.track_text.specs.ProgramLaws.{Ready, at-hand, small-number, few-samples, samples-count, none-after, text-refused, text-report, answer-refused, answer-taken}
 use Rattle.track_text.proofs.track_text.Statement.{statement}
 use Rattle.track_text.proofs.track_text.Tie as tie
@@ -39,7 +39,7 @@ module _ (c : tie.After-load-samples) where
   unfolding samples-in
   x-is = loaded (c .before .before .before .before .before .before .before .args .input .now) 11 (count (c .before .before .before)) (c .before .before .before .before .before .before .before .args .samples .now) (c .load-samples .last .1 .1 .0) (room (c .before .before .before)) (c .load-samples .ensures)
 
-  whole-is : c .load-samples .last .1 .1 .0 ++ drop (count (c .before .before .before)) (c .before .before .before .before .before .before .before .args .samples .now) ≡ headed (samples-in (c .before .before .before .before .before .before .before .args .input .now)) (c .before .before .before .before .before .before .before .args .samples .now)
+  whole-is : c .load-samples .last .1 .1 .0 ++ drop (count (c .before .before .before)) (c .before .before .before .before .before .before .before .args .samples .now) ≡ overwritten (samples-in (c .before .before .before .before .before .before .before .args .input .now)) (c .before .before .before .before .before .before .before .args .samples .now)
   unfolding samples-in
   whole-is = loaded-over (c .before .before .before .before .before .before .before .args .input .now) 11 (count (c .before .before .before)) (c .before .before .before .before .before .before .before .args .samples .now) (c .load-samples .last .1 .1 .0) (room (c .before .before .before)) (c .load-samples .ensures)
 
@@ -58,7 +58,7 @@ same-length : tie.Need-same-length
 same-length c = c .before .before .put-refused .kept .0
 
 returns : tie.Need-returns
-unfolding printedOf
+unfolding track-text-call
 returns c =
     let s = c .before .before .before .before .before .before .before .before in
     let p = c .before .before .before .before .before .program-no in
@@ -118,7 +118,7 @@ same-length-4 : tie.Need-same-length-4
 same-length-4 c = c .before .before .before .put-report .kept .1 .1 .1 .0
 
 returns-2 : tie.Need-returns-2
-unfolding printedOf
+unfolding track-text-call
 returns-2 c =
     let s = c .before .before .before .before .before .before .before .before .before .before .before .before .before .before .before in
     let p = c .before .before .before .before .before .before .before .before .before .before .before .before .program-no in
@@ -130,9 +130,9 @@ returns-2 c =
       λ rest e.
           let g = none-after b rest (s .args .more) (whole (d .before .before .before) .0) e in
           let z = ap program-no (sym g) ∙ sym (p .ensures rest e) ∙ c .before .before .before .before .before .before .before .before .before .before .before .if1 .left in
-          let q = put-as (w .0) (ap₂ report settings (x-is d) ∙ text-report b z) in
-          answer-taken b _ out _ _ (put-count q) (put-over q (omega (arith, w .1, s .pre .3))) z (whole-is d) (w .2 ∙ (λ i. tableOf (settings i) (s .args .table .now) (x-is d i)))
-          ∙ ap (λ (l : List ℕ). printedOf l out (s .args .samples .now) (s .args .table .now)) (sym g),
+          let q = put-as (w .0) (ap₂ track-report settings (x-is d) ∙ text-report b z) in
+          answer-taken b _ out _ _ (put-count q) (put-over q (omega (arith, w .1, s .pre .3))) z (whole-is d) (w .2 ∙ (λ i. paper-table (settings i) (s .args .table .now) (x-is d i)))
+          ∙ ap (λ (l : List ℕ). track-text-call l out (s .args .samples .now) (s .args .table .now)) (sym g),
       w .1,
     )
 

@@ -3,7 +3,7 @@ use mathlib.Core.Path.{sym, _∙_}
 use native.Mathlib.Omega.{arith}
 use lib.Dec.{lit≤}
 use mir.Syntax.{w32}
-use Rattle.zint.specs.Read.{r-got}
+use Rattle.zint.specs.ReadLaws.{r-got}
 use Rattle.silk_tables.specs.TableLaws.{settings-of}
 use Rattle.silk_tables.specs.ContourLaws.{entries-8, entries-other, book-8, book-other}
 use Rattle.silk_tables.proofs.rebuild.codebook_offset.Statement.{statement}

@@ -4,7 +4,7 @@ use native.Mathlib.Omega.{arith}
 use lib.IntN.{pos}
 use mir.Syntax.{w32}
 use Rattle.zint.specs.ClampLaws.{clamp-hi, clamp-lo, clamp-in}
-use Rattle.zint.specs.Read.{r-nat, r-as, r-var, r-got, r-add, f-add, t-lt}
+use Rattle.zint.specs.ReadLaws.{r-nat, r-as, r-var, r-got, r-add, f-add, t-lt}
 use Rattle.silk_tables.specs.Rebuild.{primary, rebuilt}
 use Rattle.silk_tables.specs.RebuildLaws.{primary-fits, sum-fits}
 use borrow.Author.Needs.{needs}

@@ -6,7 +6,7 @@ use native.Mathlib.Omega.{arith}
 use lib.IntN.{pos}
 use lib.Signed.{leZ, ltZ}
 use mir.Syntax.{w32}
-use Rattle.zint.specs.Read.{r-nat, r-as, r-var}
+use Rattle.zint.specs.ReadLaws.{r-nat, r-as, r-var}
 use Rattle.zint.specs.BoolLaws.{and-yes, and-no}
 use Rattle.silk_tables.specs.Tables.{greatest-index, contours}
 use Rattle.silk_tables.specs.Rebuild.{carried}

@@ -9,9 +9,9 @@ use lib.IntN.{ℤ, natAbs}
 use mir.Syntax.{w32, w64}
 use mir.Val.{toZ, ofZ}
 use Rattle.answers.specs.Answer.{answer-numbers}
-use Rattle.zint.specs.Bound.{fits-abs}
-use Rattle.zint.specs.Read.{r-var, r-got, as-unsigned}
-use Rattle.silk_tables.specs.Rebuild.{rebuilt, Coded, accepted, carried, rebuiltOf, rebuilt-numbers, rebuilt-number}
+use Rattle.zint.specs.BoundLaws.{fits-abs}
+use Rattle.zint.specs.ReadLaws.{r-var, r-got, as-unsigned}
+use Rattle.silk_tables.specs.Rebuild.{rebuilt, Coded, accepted, carried, rebuild-call, rebuilt-numbers, rebuilt-number}
 use Rattle.silk_tables.specs.CarriedLaws.{Carried, accepted-means, carried-means, contour-abs, coded, answer-by, answer-lag, rebuilt-in-numbers}
 use Rattle.silk_tables.specs.declared.rebuild.Rebuilt.{Rebuilt}
 use Rattle.silk_tables.specs.declared.rebuild.Rebuilt.the-variants.{Lag}
@@ -20,8 +20,8 @@ use Rattle.silk_tables.proofs.rebuild.rebuilt_lag.Statement.{statement}
 use Rattle.silk_tables.proofs.rebuild.rebuilt_lag.Tie as tie
 
 -- the answer, and so the answer in numbers
-in-both : {x : Rebuilt} (fs nb cx : ℕ) (index contour : ℤ) (k : ℕ) → x ≡ rebuiltOf fs nb cx index contour k
-    → (x ≡ rebuiltOf fs nb cx index contour k) × (rebuilt-numbers x ≡ answer-numbers (rebuilt-number fs nb cx index contour k) (rebuilt fs nb index (natAbs contour) k ∷ []))
+in-both : {x : Rebuilt} (fs nb cx : ℕ) (index contour : ℤ) (k : ℕ) → x ≡ rebuild-call fs nb cx index contour k
+    → (x ≡ rebuild-call fs nb cx index contour k) × (rebuilt-numbers x ≡ answer-numbers (rebuilt-number fs nb cx index contour k) (rebuilt fs nb index (natAbs contour) k ∷ []))
 in-both fs nb cx index contour k e = (e, ap rebuilt-numbers e ∙ rebuilt-in-numbers fs nb cx index contour k)
 
 -- what the first test and the last say, at the numbers handed in

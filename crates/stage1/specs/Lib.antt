@@ -1,0 +1,8 @@
+-- Stage 1 of the pitch analyser. Definitions: `Stage1`; the answer in words: `Meaning`, shown in `MeaningLaws`; what callers use: `AnswerLaws`; the others are laws.
+pub mod Stage1
+pub mod Meaning
+pub mod ScoreLaws
+pub mod KeptLaws
+pub mod PlaceLaws
+pub mod MeaningLaws
+pub mod AnswerLaws

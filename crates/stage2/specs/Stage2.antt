@@ -1,0 +1,72 @@
+-- Stage 2 of the pitch analyser: what it answers for the 8 kHz signal e and the lags kept by stage 1, at the rate fs, with nb subframes, the complexity cx, the second
+-- threshold, and the previous lag and correlation. Definitions only.
+use mathlib.Core.Path.{_≡_}
+use mathlib.Core.Bool.{Bool, cond}
+use mathlib.Core.List.{List, [], _∷_}
+use mathlib.Core.Logic.{_⊎_}
+use Prim.Native.Nat.{ℕ, _+_, _*_, _≤_, _<_}
+use lib.IntN.{ℤ, pos, _*ℤ_}
+use lib.ListN.{length}
+use lib.Signed.{quotZ}
+use Rattle.best.specs.Best.{some, Place, none, at, best}
+use Rattle.silk_tables.specs.Tables.{contours2}
+use Rattle.stage2_correlations.specs.Marks.{Kept}
+use Rattle.stage2_correlations.specs.Correlations.{correlation, zero-reached}
+use Rattle.stage2.specs.declared.Stage2.{Stage2}
+use Rattle.stage2.specs.declared.Stage2.the-variants.{ZeroDivisor, Unvoiced, Winner}
+use Rattle.stage2.specs.Scores.{best-contour, lag-sum, passes, prev-8khz, score}
+
+-- "The best biased score among passing lags wins, lowest lag first": the place p stands for the lag 16 + p, up to 143
+unfoldable pub winner : (ℕ → ℕ → ℤ) → List ℕ → ℕ → ℕ → ℤ → ℤ → ℤ → Place
+winner c kept nb m thres2 prev corr = best 128 (λ p. passes c kept nb m thres2 (16 + p)) (λ p. score c nb m prev corr (16 + p))
+
+-- "none: unvoiced. Correlation (Q15) is 4 × (sum / nb)."
+abbrev pub won : (ℕ → ℕ → ℤ) → ℕ → ℕ → Place → Stage2
+won c nb m none = Unvoiced
+won c nb m (at p) = Winner (16 + p) (best-contour c nb m (16 + p)) (quotZ (lag-sum c nb m (16 + p)) (pos nb) *ℤ pos 4)
+
+-- the answer from correlations c
+unfoldable pub picked : (ℕ → ℕ → ℤ) → List ℕ → ℕ → ℕ → ℕ → ℤ → ℤ → ℤ → Stage2
+picked c kept fs nb cx thres2 prev corr =
+    won c nb (contours2 fs nb cx) (winner c kept nb (contours2 fs nb cx) thres2 (prev-8khz fs prev) corr)
+
+-- a divisor that is reached is zero, in some subframe and at some lag
+unfoldable pub zero2 : List ℤ → List ℕ → ℕ → Bool
+zero2 e kept nb = some nb (λ k. some 145 (zero-reached e kept k))
+
+unfoldable pub stage2 : List ℤ → List ℕ → ℕ → ℕ → ℕ → ℤ → ℤ → ℤ → Stage2
+stage2 e kept fs nb cx thres2 prev corr = cond (zero2 e kept nb) ZeroDivisor (picked (correlation e kept) kept fs nb cx thres2 prev corr)
+
+-- ---- the answer in document 01's numbers
+
+-- the answer's cases: a zero divisor is verdict 2, unvoiced verdict 1, and a winner verdict 0 with its lag, contour and correlation
+abbrev pub stage2-numbers : Stage2 → List ℤ
+stage2-numbers ZeroDivisor = pos 2 ∷ []
+stage2-numbers Unvoiced = pos 1 ∷ []
+stage2-numbers (Winner d j r) = pos 0 ∷ pos d ∷ pos j ∷ r ∷ []
+
+-- the verdict and the values from the place of the winner
+abbrev pub won-verdict : Place → ℕ
+won-verdict none = 1
+won-verdict (at p) = 0
+
+abbrev pub won-values : (ℕ → ℕ → ℤ) → ℕ → ℕ → Place → List ℤ
+won-values c nb m none = []
+won-values c nb m (at p) = pos (16 + p) ∷ pos (best-contour c nb m (16 + p)) ∷ (quotZ (lag-sum c nb m (16 + p)) (pos nb) *ℤ pos 4) ∷ []
+
+-- stage 2's verdict, and the values that come with verdict 0
+unfoldable pub stage2-verdict : List ℤ → List ℕ → ℕ → ℕ → ℕ → ℤ → ℤ → ℤ → ℕ
+stage2-verdict e kept fs nb cx thres2 prev corr =
+    cond (zero2 e kept nb) 2 (won-verdict (winner (correlation e kept) kept nb (contours2 fs nb cx) thres2 (prev-8khz fs prev) corr))
+
+unfoldable pub stage2-values : List ℤ → List ℕ → ℕ → ℕ → ℕ → ℤ → ℤ → ℤ → List ℤ
+stage2-values e kept fs nb cx thres2 prev corr =
+    won-values (correlation e kept) nb (contours2 fs nb cx) (winner (correlation e kept) kept nb (contours2 fs nb cx) thres2 (prev-8khz fs prev) corr)
+
+-- what stage 2 is handed: a rate, a subframe count and a complexity that are accepted, a whole frame at 8 kHz, and lags that stage 1 keeps
+pub record Handed2 (e : List ℤ) (kept : List ℕ) (fs nb cx : ℕ) : Type 0 where
+  pub rate : (fs ≡ 8) ⊎ ((fs ≡ 12) ⊎ (fs ≡ 16))
+  pub subframes : (nb ≡ 2) ⊎ (nb ≡ 4)
+  pub complexity : cx < 3
+  pub long : (20 + 5 * nb) * 8 ≤ length e
+  pub lags : Kept kept
