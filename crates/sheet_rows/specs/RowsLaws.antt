@@ -15,20 +15,13 @@ use Rattle.zint.specs.EqualLaws.{eqZ-yes, eqZ-no, eqZ-true}
 use Rattle.silk_tables.specs.Rebuild.{rebuilt, carried}
 use Rattle.zint.specs.BoolLaws.{and-left, and-right}
 use Rattle.silk_tables.specs.ContourLaws.{greatest-le, contours-le-34}
-use Rattle.silk_tables.specs.TableLaws.{settings-of}
-use Rattle.silk_tables.specs.CarriedLaws.{Accepted, accepted-of, carried-means}
+use Rattle.silk_tables.specs.CarriedLaws.{carried-means}
 use Rattle.pitch_settings.specs.declared.Settings.{Settings}
-use Rattle.pitch_settings.specs.Settings.{settings-no}
-use Rattle.pitch_settings.specs.SettingsLaws.{accepted-settings}
 use Rattle.pitch_table.specs.declared.Row.{Row}
 use Rattle.pitch_table.specs.Row.{numbers}
 use Rattle.sheet_rows.specs.declared.RowRead.{RowRead}
 use Rattle.sheet_rows.specs.declared.RowRead.the-variants.{Held, Bad}
 use Rattle.sheet_rows.specs.Rows.{lag-place, voiced-row, quiet-row, row-of, row-read-numbers, row-no, row-values, same-four, same-row, same-as, row-holds}
-
--- accepted settings, as the contour tables have them
-pub tables-accept : (s : Settings) → settings-no s ≡ 0 → Accepted (s .rate) (s .nb) (s .complexity)
-tables-accept s h = let a = accepted-settings s h in accepted-of (a .rate) (settings-of (a .subframes) (omega arith))
 
 -- ---- the definitions by their tests
 

@@ -3,7 +3,7 @@ ghost use mathlib.Core.Path.{_≡_};
 ghost use mathlib.Core.Bool.{true};
 ghost use Rattle.answers.specs.Answer.{answer-numbers};
 ghost use Rattle.silk_tables.specs.Rebuild.{carried};
-ghost use Rattle.pitch_settings.specs.Settings.{settings-no};
+ghost use Rattle.pitch_settings.specs.Settings.{held-no};
 ghost use Rattle.sheet_rows.specs.Rows.{lag-place, voiced-row, quiet-row, row-of, row-read-numbers, row-no, row-values, same-four, same-row, row-holds};
 use pitch_settings::Settings;
 use pitch_table::Row;
@@ -18,7 +18,7 @@ pub enum RowRead {
 
 // The lag of subframe k, or 0 where the frame has no subframe k.
 fn lag_place(s: Settings, index: i32, contour: i32, k: usize) -> i32
-    requires { ⌜ (settings-no s ≡ 0) × (carried (s .rate) (s .nb) (s .complexity) index contour ≡ true) ⌝ }
+    requires { ⌜ (held-no s ≡ 0) × (carried (s .rate) (s .nb) (s .complexity) index contour ≡ true) ⌝ }
     ensures { λ r. ⌜ r ≡ lag-place s index contour k ⌝ }
 {
     if k < s.nb {
@@ -29,7 +29,7 @@ fn lag_place(s: Settings, index: i32, contour: i32, k: usize) -> i32
 }
 
 fn voiced_row(s: Settings, index: i32, contour: i32, correlation: i32) -> Row
-    requires { ⌜ (settings-no s ≡ 0) × (carried (s .rate) (s .nb) (s .complexity) index contour ≡ true) ⌝ }
+    requires { ⌜ (held-no s ≡ 0) × (carried (s .rate) (s .nb) (s .complexity) index contour ≡ true) ⌝ }
     ensures { λ r. ⌜ r ≡ voiced-row s index contour correlation ⌝ }
 {
     Row {
@@ -61,7 +61,7 @@ fn quiet_row(verdict: i32) -> Row
 
 // The row that these numbers stand for. Only a voiced one has a pair and a correlation.
 pub fn row_of(s: Settings, verdict: i32, index: i32, contour: i32, correlation: i32) -> RowRead
-    requires { ⌜ settings-no s ≡ 0 ⌝ }
+    requires { ⌜ held-no s ≡ 0 ⌝ }
     ensures { λ r. ⌜ r ≡ row-of s verdict index contour correlation ⌝ }
     ensures { λ r. ⌜ row-read-numbers r ≡ answer-numbers (row-no s verdict index contour) (row-values s verdict index contour correlation) ⌝ }
 {
@@ -123,7 +123,7 @@ fn same_row(a: Row, b: Row) -> bool
 
 // Whether a sheet can hold the row: it is the one that its own verdict, pair and correlation stand for.
 pub fn row_holds(s: Settings, r: Row) -> bool
-    requires { ⌜ settings-no s ≡ 0 ⌝ }
+    requires { ⌜ held-no s ≡ 0 ⌝ }
     ensures { λ b. ⌜ b ≡ row-holds s r ⌝ }
 {
     let RowRead::Held(held) = row_of(s, r.verdict, r.index, r.contour, r.correlation) else {

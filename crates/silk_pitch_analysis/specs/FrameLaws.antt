@@ -20,8 +20,7 @@ use Rattle.pitch_table.specs.Row.{numbers}
 use Rattle.silk_tables.specs.Tables.{contours, contours2, in-use, greatest-index}
 use Rattle.silk_tables.specs.TableLaws.{in-use-bounds}
 use Rattle.silk_tables.specs.ContourLaws.{contours-le-34}
-use Rattle.silk_tables.specs.Rebuild.{Coded}
-use Rattle.silk_tables.specs.CarriedLaws.{Carried as CarriedPair, accepted-of, carried-pair, contour-abs, coded as pair-coded}
+use Rattle.silk_tables.specs.CarriedLaws.{CarriedPair, carried-pair, contour-abs}
 use Rattle.frame_signals.specs.Signals.{down-to-8khz, down-to-4khz}
 use Rattle.frame_signals.specs.SignalLaws.{length-eight, length-four}
 use Rattle.stage3.specs.Stage3.{stage3, Handed}
@@ -55,11 +54,6 @@ module _ (s : Settings) {index contour : ℤ} (p : CarriedPair (s .rate) (s .nb)
   pub contour-small : natAbs contour < 34
   contour-small =
       omega (zarith, contours-le-34 (s .rate) (s .nb) (s .complexity), of-lt (subst (λ (z : ℤ). z <ℤ pos (contours (s .rate) (s .nb) (s .complexity))) (contour-abs p) (p .contour-lt)))
-
-  pub coded : settings-no s ≡ 0 → (k : ℕ) → k < s .nb → Coded (s .rate) (s .nb) index (natAbs contour) k
-  coded h k l =
-      let a = accepted-settings s h in
-      pair-coded (accepted-of (a .rate) (record { subframes = a .subframes; at-least = a .nb-low; at-most = a .nb-high; complexity = omega (arith, a .complexity) })) p k l
 
 -- what the last stage is handed: a winner of stage 2, with a contour that stage 2 tries
 pub record Won (s : Settings) (lag contour : ℕ) : Type 0 where

@@ -1,12 +1,10 @@
--- What accepted settings and a carried pair say, the two tests from such facts, and the answer by its tests.
+-- What a carried pair says, the test from such facts, and the answer by its tests.
 use mathlib.Core.Path.{_≡_, refl, ap, ap₂, subst}
 use mathlib.Core.List.{[], _∷_}
-use mathlib.Core.Bool.{Bool, true, false, _&&_, _||_, cond}
-use mathlib.Core.Logic.{_⊎_, inl, inr, ⊎-elim}
+use mathlib.Core.Bool.{Bool, true, false, _&&_, cond}
 use Prim.Native.Nat.{ℕ, _≤_, _<_}
 use native.Mathlib.Omega.{arith}
-use lib.Dec.{eqb, ltb, leb}
-use borrow.Author.Tests.{eqb-true, leb-true, le-leb, lt-ltb}
+use lib.Dec.{eqb, ltb}
 use lib.IntN.{ℤ, pos, natAbs}
 use lib.Signed.{leZ, ltZ, _≤ℤ_, _<ℤ_}
 use Rattle.answers.specs.Answer.{answer-numbers}
@@ -14,81 +12,26 @@ use Rattle.zint.specs.TestLaws.{le-true, lt-true}
 use Rattle.zint.specs.OrderLaws.{le-yes, lt-yes}
 use Rattle.zint.specs.ShiftLaws.{nonneg-abs}
 use Rattle.zint.specs.DiffLaws.{le-of, lt-of, of-lt, zarith}
-use Rattle.silk_tables.specs.Tables.{TableSettings, contours, greatest-index}
-use Rattle.silk_tables.specs.Rebuild.{rebuilt, Coded, accepted, carried, rebuild-call, rebuilt-numbers, rebuilt-number}
-use Rattle.zint.specs.BoolLaws.{and-left, and-right, or-cases}
-use Rattle.silk_tables.specs.TableLaws.{settings-of}
+use Rattle.silk_tables.specs.Tables.{contours, greatest-index}
+use Rattle.silk_tables.specs.Rebuild.{rebuilt, Coded, carried, rebuildable, rebuild-call, rebuilt-numbers, rebuilt-number}
+use Rattle.zint.specs.BoolLaws.{and-left, and-right}
+use Rattle.pitch_settings.specs.declared.Settings.{Settings}
+use Rattle.pitch_settings.specs.Settings.{settings-refusal, complexity-held, held-no}
+use Rattle.pitch_settings.specs.SettingsLaws.{held-settings}
 use Rattle.silk_tables.specs.ContourLaws.{greatest-le, contours-le}
 use Rattle.silk_tables.specs.declared.rebuild.Rebuilt.{Rebuilt}
 use Rattle.silk_tables.specs.declared.rebuild.Rebuilt.the-variants.{Lag, NotCarried}
 
--- ---- accepted settings
-
-pub record Accepted (fs nb cx : ℕ) : Type 0 where
-  pub rate : (fs ≡ 8) ⊎ ((fs ≡ 12) ⊎ (fs ≡ 16))
-  pub rate-ge : 8 ≤ fs
-  pub rate-le : fs ≤ 16
-  pub settings : TableSettings nb cx
-
-abbrev rate-test : ℕ → Bool
-rate-test fs = eqb fs 8 || eqb fs 12 || eqb fs 16
-
-abbrev count-test : ℕ → Bool
-count-test nb = eqb nb 2 || eqb nb 4
-
-abbrev RateIn : ℕ → Type 0
-RateIn fs = (fs ≡ 8) ⊎ ((fs ≡ 12) ⊎ (fs ≡ 16))
-
-rate-of : (fs : ℕ) → rate-test fs ≡ true → RateIn fs
-rate-of fs e =
-    ⊎-elim
-    (λ f. ⊎-elim (λ g. inl (eqb-true fs 8 g)) (λ g. inr (inl (eqb-true fs 12 g))) (or-cases (eqb fs 8) (eqb fs 12) f))
-    (λ f. inr (inr (eqb-true fs 16 f)))
-    (or-cases (eqb fs 8 || eqb fs 12) (eqb fs 16) e)
-
-rate-in : (fs : ℕ) → RateIn fs → rate-test fs ≡ true
-rate-in fs r = ⊎-elim (λ (e : fs ≡ 8). ap rate-test e) (λ s. ⊎-elim (λ (e : fs ≡ 12). ap rate-test e) (λ (e : fs ≡ 16). ap rate-test e) s) r
-
-count-of : (nb : ℕ) → count-test nb ≡ true → (nb ≡ 2) ⊎ (nb ≡ 4)
-count-of nb e = ⊎-elim (λ g. inl (eqb-true nb 2 g)) (λ g. inr (eqb-true nb 4 g)) (or-cases (eqb nb 2) (eqb nb 4) e)
-
-count-in : (nb : ℕ) → (nb ≡ 2) ⊎ (nb ≡ 4) → count-test nb ≡ true
-count-in nb s = ⊎-elim (λ (e : nb ≡ 2). ap count-test e) (λ (e : nb ≡ 4). ap count-test e) s
-
-between : (fs : ℕ) → RateIn fs → (8 ≤ fs) × (fs ≤ 16)
-between fs r =
-    ⊎-elim
-    (λ (e : fs ≡ 8). (omega arith, omega arith))
-    (λ s. ⊎-elim (λ (e : fs ≡ 12). (omega arith, omega arith)) (λ (e : fs ≡ 16). (omega arith, omega arith)) s)
-    r
-
-module _ {fs nb cx : ℕ} where
-  pub accepted-of : (fs ≡ 8) ⊎ ((fs ≡ 12) ⊎ (fs ≡ 16)) → TableSettings nb cx → Accepted fs nb cx
-  accepted-of r s = record { rate = r; rate-ge = between fs r .0; rate-le = between fs r .1; settings = s }
-
-  pub accepted-means : accepted fs nb cx ≡ true → Accepted fs nb cx
-  unfolding accepted
-  accepted-means e =
-      let both = and-left (rate-test fs && count-test nb) (leb cx 2) e in
-      let h : cx ≤ 2 = leb-true cx 2 (and-right (rate-test fs && count-test nb) (leb cx 2) e) in
-      accepted-of (rate-of fs (and-left (rate-test fs) (count-test nb) both)) (settings-of (count-of nb (and-right (rate-test fs) (count-test nb) both)) (omega arith))
-
-  pub accepted-yes : Accepted fs nb cx → accepted fs nb cx ≡ true
-  unfolding accepted
-  accepted-yes a =
-      let h = a .settings .complexity in
-      ap₂ _&&_ (ap₂ _&&_ (rate-in fs (a .rate)) (count-in nb (a .settings .subframes))) (le-leb cx 2 (omega arith))
-
 -- ---- a carried pair
 
-pub record Carried (fs nb cx : ℕ) (index contour : ℤ) : Type 0 where
+pub record CarriedPair (fs nb cx : ℕ) (index contour : ℤ) : Type 0 where
   pub index-ge : pos 0 ≤ℤ index
   pub index-le : index ≤ℤ pos (greatest-index fs)
   pub contour-ge : pos 0 ≤ℤ contour
   pub contour-lt : contour <ℤ pos (contours fs nb cx)
 
 module _ {fs nb cx : ℕ} {index contour : ℤ} where
-  pub carried-means : carried fs nb cx index contour ≡ true → Carried fs nb cx index contour
+  pub carried-means : carried fs nb cx index contour ≡ true → CarriedPair fs nb cx index contour
   unfolding carried
   carried-means e =
       let i-test = leZ (pos 0) index && leZ index (pos (greatest-index fs)) in
@@ -101,35 +44,36 @@ module _ {fs nb cx : ℕ} {index contour : ℤ} where
         contour-lt = lt-true contour (pos (contours fs nb cx)) (and-right (i-test && leZ (pos 0) contour) (ltZ contour (pos (contours fs nb cx))) e);
       }
 
-  pub carried-yes : Carried fs nb cx index contour → carried fs nb cx index contour ≡ true
+  pub carried-yes : CarriedPair fs nb cx index contour → carried fs nb cx index contour ≡ true
   unfolding carried
   carried-yes p = ap₂ _&&_ (ap₂ _&&_ (ap₂ _&&_ (le-yes (p .index-ge)) (le-yes (p .index-le))) (le-yes (p .contour-ge))) (lt-yes (p .contour-lt))
 
   -- its contour as a number, and what the lag of a subframe asks
-  pub contour-abs : Carried fs nb cx index contour → contour ≡ pos (natAbs contour)
+  pub contour-abs : CarriedPair fs nb cx index contour → contour ≡ pos (natAbs contour)
   contour-abs p = nonneg-abs contour (p .contour-ge)
 
-  contour-in : Carried fs nb cx index contour → natAbs contour < contours fs nb cx
+  contour-in : CarriedPair fs nb cx index contour → natAbs contour < contours fs nb cx
   contour-in p = let h = of-lt (subst (λ (z : ℤ). z <ℤ pos (contours fs nb cx)) (contour-abs p) (p .contour-lt)) in omega arith
 
-  pub coded : Accepted fs nb cx → Carried fs nb cx index contour → (k : ℕ) → k < nb → Coded fs nb index (natAbs contour) k
-  coded a p k h =
-      let i = p .index-le in
-      let g = greatest-le fs in
-      let m = contour-in p in
-      let l = contours-le fs nb cx in
-      record {
-        rate-ge = a .rate-ge;
-        rate-le = a .rate-le;
-        subframes = a .settings .subframes;
-        index-ge = p .index-ge;
-        index-le = le-of index (pos 256) (omega zarith);
-        entry = omega arith;
-        subframe = h;
-      }
+pub coded : (s : Settings) {index contour : ℤ} → held-no s ≡ 0 → CarriedPair (s .rate) (s .nb) (s .complexity) index contour → (k : ℕ) → k < s .nb → Coded (s .rate) (s .nb) index (natAbs contour) k
+coded s {index} {contour} e p k h =
+    let a = held-settings s e in
+    let i = p .index-le in
+    let g = greatest-le (s .rate) in
+    let m = contour-in p in
+    let l = contours-le (s .rate) (s .nb) (s .complexity) in
+    record {
+      rate-ge = a .rate-low;
+      rate-le = a .rate-high;
+      subframes = a .subframes;
+      index-ge = p .index-ge;
+      index-le = le-of index (pos 256) (omega zarith);
+      entry = omega arith;
+      subframe = h;
+    }
 
 -- a pair of numbers that are not negative
-pub carried-pair : {fs nb cx i j : ℕ} → i ≤ greatest-index fs → j < contours fs nb cx → Carried fs nb cx (pos i) (pos j)
+pub carried-pair : {fs nb cx i j : ℕ} → i ≤ greatest-index fs → j < contours fs nb cx → CarriedPair fs nb cx (pos i) (pos j)
 carried-pair {fs} {nb} {cx} {i} {j} h l = record {
   index-ge = le-of (pos 0) (pos i) (omega arith);
   index-le = le-of (pos i) (pos (greatest-index fs)) (omega arith);
@@ -143,17 +87,14 @@ module _ (fs nb cx : ℕ) (index contour : ℤ) (k : ℕ) where
   abbrev lag : Rebuilt
   lag = Lag (rebuilt fs nb index (natAbs contour) k)
 
-  pub answer-by : {a b c : Bool} → accepted fs nb cx ≡ a → ltb k nb ≡ b → carried fs nb cx index contour ≡ c → rebuild-call fs nb cx index contour k ≡ cond (a && b && c) lag NotCarried
+  pub answer-by : {a b c : Bool} → eqb (settings-refusal fs nb (complexity-held cx)) 0 ≡ a → ltb k nb ≡ b → carried fs nb cx index contour ≡ c → rebuild-call fs nb cx index contour k ≡ cond (a && b && c) lag NotCarried
   unfolding rebuild-call
   answer-by p q r = λ i. cond (p i && q i && r i) lag NotCarried
-
-  pub answer-lag : Accepted fs nb cx → k < nb → Carried fs nb cx index contour → rebuild-call fs nb cx index contour k ≡ lag
-  answer-lag a h p = answer-by (accepted-yes a) (lt-ltb k nb h) (carried-yes p)
 
   -- the answer in numbers
   pub rebuilt-in-numbers : rebuilt-numbers (rebuild-call fs nb cx index contour k) ≡ answer-numbers (rebuilt-number fs nb cx index contour k) (rebuilt fs nb index (natAbs contour) k ∷ [])
   unfolding rebuild-call rebuilt-number
-  rebuilt-in-numbers = by (accepted fs nb cx && ltb k nb && carried fs nb cx index contour)
+  rebuilt-in-numbers = by (rebuildable fs nb cx index contour k)
     where
       by : (t : Bool) → rebuilt-numbers (cond t lag NotCarried) ≡ answer-numbers (cond t 0 9) (rebuilt fs nb index (natAbs contour) k ∷ [])
       by true = refl

@@ -1,15 +1,16 @@
 -- RFC 6716, section 4.2.7.6.1: the lags that a lag index and a contour index stand for. fs is the rate in kHz, so a millisecond is fs samples; nb is the subframe
 -- count and k a subframe. Definitions only; the laws are in `RebuildLaws`.
 use mathlib.Core.Path.{_≡_}
-use mathlib.Core.Bool.{Bool, _&&_, _||_, cond}
+use mathlib.Core.Bool.{Bool, _&&_, cond}
 use mathlib.Core.List.{List, [], _∷_}
 use mathlib.Core.Logic.{_⊎_}
 use Prim.Native.Nat.{ℕ, _*_, _≤_, _<_}
-use lib.Dec.{eqb, ltb, leb}
+use lib.Dec.{eqb, ltb}
 use lib.IntN.{ℤ, pos, natAbs, _+ℤ_}
 use lib.Signed.{leZ, ltZ, _≤ℤ_}
 use Rattle.zint.specs.Clamp.{clamp}
 use Rattle.lists.specs.Fill.{tabulate}
+use Rattle.pitch_settings.specs.Settings.{settings-refusal, complexity-held}
 use Rattle.silk_tables.specs.Tables.{offset, offset2, contours, greatest-index}
 use Rattle.silk_tables.specs.declared.rebuild.Rebuilt.{Rebuilt}
 use Rattle.silk_tables.specs.declared.rebuild.Rebuilt.the-variants.{Lag, NotCarried}
@@ -52,19 +53,19 @@ pub record Coded (fs nb : ℕ) (index : ℤ) (contour k : ℕ) : Type 0 where
 
 -- ---- which pairs there are (document 01, Contours and Sheet)
 
--- the settings: 8, 12 or 16 kHz, 2 or 4 subframes, complexity 0 to 2
-unfoldable pub accepted : ℕ → ℕ → ℕ → Bool
-accepted fs nb cx = (eqb fs 8 || eqb fs 12 || eqb fs 16) && (eqb nb 2 || eqb nb 4) && leb cx 2
-
 -- the pair: an index from 0 to the greatest at this rate, and a contour in use
 unfoldable pub carried : ℕ → ℕ → ℕ → ℤ → ℤ → Bool
 carried fs nb cx index contour =
     leZ (pos 0) index && leZ index (pos (greatest-index fs)) && leZ (pos 0) contour && ltZ contour (pos (contours fs nb cx))
 
--- the answer for any numbers: a lag where the settings are accepted, the frame has a subframe k, and the pair is carried
+-- settings that a sheet can hold, a subframe of the frame, and a carried pair
+abbrev pub rebuildable : ℕ → ℕ → ℕ → ℤ → ℤ → ℕ → Bool
+rebuildable fs nb cx index contour k = eqb (settings-refusal fs nb (complexity-held cx)) 0 && ltb k nb && carried fs nb cx index contour
+
+-- the answer for any numbers: a lag where there is one to rebuild
 unfoldable pub rebuild-call : ℕ → ℕ → ℕ → ℤ → ℤ → ℕ → Rebuilt
 rebuild-call fs nb cx index contour k =
-    cond (accepted fs nb cx && ltb k nb && carried fs nb cx index contour) (Lag (rebuilt fs nb index (natAbs contour) k)) NotCarried
+    cond (rebuildable fs nb cx index contour k) (Lag (rebuilt fs nb index (natAbs contour) k)) NotCarried
 
 -- the answer in document 01's numbers: 0 and the lag, or 9 (malformed) for numbers that are no pair of a frame; and which of the two comes
 abbrev pub rebuilt-numbers : Rebuilt → List ℤ
@@ -72,4 +73,4 @@ rebuilt-numbers (Lag l) = pos 0 ∷ l ∷ []
 rebuilt-numbers NotCarried = pos 9 ∷ []
 
 unfoldable pub rebuilt-number : ℕ → ℕ → ℕ → ℤ → ℤ → ℕ → ℕ
-rebuilt-number fs nb cx index contour k = cond (accepted fs nb cx && ltb k nb && carried fs nb cx index contour) 0 9
+rebuilt-number fs nb cx index contour k = cond (rebuildable fs nb cx index contour k) 0 9

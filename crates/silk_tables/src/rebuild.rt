@@ -5,10 +5,12 @@ ghost use mathlib.Core.Logic.{_⊎_};
 ghost use Prim.Native.Nat.{_<_, _≤_};
 ghost use lib.IntN.{natAbs};
 ghost use Rattle.answers.specs.Answer.{answer-numbers};
-ghost use Rattle.silk_tables.specs.Rebuild.{lag-min, lag-max, entries, book, rebuilt, Coded, accepted, carried, rebuild-call, rebuilt-numbers, rebuilt-number};
+ghost use Rattle.silk_tables.specs.Rebuild.{lag-min, lag-max, entries, book, rebuilt, Coded, carried, rebuild-call, rebuilt-numbers, rebuilt-number};
 use crate::PE_MAX_LAG_MS;
 use crate::PE_MIN_LAG_MS;
 use crate::SILK_PE_MAX_COMPLEX;
+use pitch_settings::Settings;
+use pitch_settings::held_no;
 
 // The lag of a subframe, or the answer to a pair that is not carried.
 pub enum Rebuilt {
@@ -60,14 +62,6 @@ pub fn lag_of(fs_khz: usize, nb_subfr: usize, lag_index: i32, contour_index: usi
     }
 }
 
-fn settings_accepted(fs_khz: usize, nb_subfr: usize, complexity: usize) -> bool
-    ensures { λ r. ⌜ r ≡ accepted «fs_khz» «nb_subfr» complexity ⌝ }
-{
-    (fs_khz == 8 || fs_khz == 12 || fs_khz == 16)
-        && (nb_subfr == 2 || nb_subfr == 4)
-        && complexity <= SILK_PE_MAX_COMPLEX
-}
-
 // Whether the index is one of the rate's and the contour is one in use.
 pub fn pair_carried(
     fs_khz: usize,
@@ -84,7 +78,7 @@ pub fn pair_carried(
     lag_index >= 0 && lag_index <= greatest && contour_index >= 0 && contour_index < contours
 }
 
-// The lag of subframe k for any numbers.
+// The lag of subframe k for any numbers: a lag where a sheet can hold the settings, the frame has a subframe k and the pair is carried.
 pub fn rebuilt_lag(
     fs_khz: usize,
     nb_subfr: usize,
@@ -96,7 +90,15 @@ pub fn rebuilt_lag(
     ensures { λ r. ⌜ r ≡ rebuild-call «fs_khz» «nb_subfr» complexity «lag_index» «contour_index» k ⌝ }
     ensures { λ r. ⌜ rebuilt-numbers r ≡ answer-numbers (rebuilt-number «fs_khz» «nb_subfr» complexity «lag_index» «contour_index» k) (rebuilt «fs_khz» «nb_subfr» «lag_index» (natAbs «contour_index») k ∷ []) ⌝ }
 {
-    if !settings_accepted(fs_khz, nb_subfr, complexity) {
+    let settings = Settings {
+        rate: fs_khz,
+        nb: nb_subfr,
+        complexity: complexity,
+        thres1: 0,
+        thres2: 0,
+    };
+    let no = held_no(settings);
+    if no != 0 {
         return Rebuilt::NotCarried;
     }
     if k >= nb_subfr {

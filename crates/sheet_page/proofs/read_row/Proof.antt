@@ -12,7 +12,8 @@ use Rattle.sheet_rows.specs.Rows.{row-of}
 use Rattle.sheet_page.specs.PageLaws.{row-voiced, row-quiet, head-means, sizes-means, Places, places, small, verdict-within}
 use Prim.Native.Nat.{ℕ, _+_, _*_, _≤_, _<_}
 use native.Mathlib.Omega.{arith}
-use Rattle.pitch_settings.specs.Settings.{settings-no}
+use Rattle.pitch_settings.specs.SettingsLaws.{analysed-held}
+use Rattle.pitch_settings.specs.Settings.{held-no}
 use Rattle.sheet_page.specs.declared.Head.{Head}
 use Rattle.sheet_page.specs.Page.{frames-in, verdict-in, voiced-in, pair-place, correlation-place}
 use Rattle.sheet_page.proofs.read_row.Statement.{statement}
@@ -31,8 +32,8 @@ module _ (c : tie.Start) where
   within : 28 + c .args .i < length (c .args .page .now)
   within = verdict-within (c .args .page .now) (sizes-means (c .args .page .now) (c .pre .1)) (c .args .i) (c .pre .3)
 
-  settled : settings-no (c .args .h .settings) ≡ 0
-  settled = ap (λ (h : Head). settings-no (h .settings)) (c .pre .2) ∙ head-means (c .args .page .now) (c .pre .0) .settings
+  settled : held-no (c .args .h .settings) ≡ 0
+  settled = ap (λ (h : Head). held-no (h .settings)) (c .pre .2) ∙ analysed-held _ (head-means (c .args .page .now) (c .pre .0) .settings)
 
 -- a voiced frame: where its pair and its correlation stand
 voiced-places : (c : tie.Else1) → Places (c .before .before .before .before .args .page .now) (c .before .before .before .before .args .i)

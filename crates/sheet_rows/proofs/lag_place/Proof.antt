@@ -7,7 +7,7 @@ use Rattle.zint.specs.BoundLaws.{fits-abs}
 use Rattle.zint.specs.ReadLaws.{r-var, r-got, as-unsigned}
 use Rattle.silk_tables.specs.Rebuild.{rebuilt}
 use Rattle.silk_tables.specs.CarriedLaws.{carried-means, contour-abs, coded}
-use Rattle.sheet_rows.specs.RowsLaws.{tables-accept, lag-in, lag-past}
+use Rattle.sheet_rows.specs.RowsLaws.{lag-in, lag-past}
 use Rattle.sheet_rows.proofs.lag_place.Statement.{statement}
 use Rattle.sheet_rows.proofs.lag_place.Tie as tie
 
@@ -20,7 +20,7 @@ lag-of-requires : tie.Need-lag-of-requires
 lag-of-requires c κs =
     let s = c .before .before in
     let a = s .args in
-    rw (r-var (s .fits .index) .val, r-var (s .fits .contour) .val) (coded (tables-accept (a .s) (s .pre .0)) (carried-means (s .pre .1)) (a .k) (c .if1 .taken))
+    rw (r-var (s .fits .index) .val, r-var (s .fits .contour) .val) (coded (a .s) (s .pre .0) (carried-means (s .pre .1)) (a .k) (c .if1 .taken))
 
 returns : tie.Need-returns
 returns c =

@@ -8,9 +8,10 @@ use mir.Val.{toZ, ofZ}
 use mir.ValLaws.{toZ-pos}
 use Rattle.zint.specs.ReadLaws.{r-var}
 use Rattle.silk_tables.specs.Rebuild.{carried}
+use Rattle.pitch_settings.specs.SettingsLaws.{held-settings}
 use Rattle.sheet_rows.specs.declared.RowRead.the-variants.{Held}
 use Rattle.sheet_rows.specs.Rows.{voiced-row, quiet-row}
-use Rattle.sheet_rows.specs.RowsLaws.{tables-accept, row-voiced, row-not-carried, row-unvoiced, row-zero-divisor, row-none, row-answer}
+use Rattle.sheet_rows.specs.RowsLaws.{row-voiced, row-not-carried, row-unvoiced, row-zero-divisor, row-none, row-answer}
 use Rattle.sheet_rows.proofs.row_of.Statement.{statement}
 use Rattle.sheet_rows.proofs.row_of.Tie as tie
 
@@ -24,7 +25,7 @@ asked c =
     c .pair-carried .ensures ∙ ap₂ (carried (s .args .s .rate) (s .args .s .nb) (s .args .s .complexity)) (r-var (s .fits .index) .val) (r-var (s .fits .contour) .val)
 
 pair-carried-requires : tie.Need-pair-carried-requires
-pair-carried-requires c κs = tables-accept (c .before .args .s) (c .before .pre) .settings .complexity
+pair-carried-requires c κs = omega (arith, held-settings (c .before .args .s) (c .before .pre) .complexity)
 
 voiced-row-requires : tie.Need-voiced-row-requires
 voiced-row-requires c κs = (c .before .before .before .pre, sym (c .before .pair-carried .ensures) ∙ c .if2 .taken)

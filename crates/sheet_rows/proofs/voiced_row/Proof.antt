@@ -8,13 +8,13 @@ use mir.Syntax.{w32}
 use mir.Val.{hbits, toZ, ofZ}
 use Rattle.zint.specs.ReadLaws.{r-var, r-got}
 use Rattle.silk_tables.specs.Rebuild.{carried}
-use Rattle.pitch_settings.specs.Settings.{settings-no}
+use Rattle.pitch_settings.specs.Settings.{held-no}
 use Rattle.sheet_rows.specs.Rows.{lag-place, voiced-row}
 use Rattle.sheet_rows.proofs.voiced_row.Statement.{statement}
 use Rattle.sheet_rows.proofs.voiced_row.Tie as tie
 
 -- what each lag asks, at the numbers handed on
-pair : (c : tie.Start) → (settings-no (c .args .s) ≡ 0) × (carried (c .args .s .rate) (c .args .s .nb) (c .args .s .complexity) (toZ w32 (ofZ w32 (c .args .index))) (toZ w32 (ofZ w32 (c .args .contour))) ≡ true)
+pair : (c : tie.Start) → (held-no (c .args .s) ≡ 0) × (carried (c .args .s .rate) (c .args .s .nb) (c .args .s .complexity) (toZ w32 (ofZ w32 (c .args .index))) (toZ w32 (ofZ w32 (c .args .contour))) ≡ true)
 pair c = (c .pre .0, rw (r-var (c .fits .index) .val, r-var (c .fits .contour) .val) (c .pre .1))
 
 -- each lag, at the numbers handed in

@@ -6,12 +6,13 @@ use mir.Syntax.{w32, w64}
 use mir.Val.{toZ, ofZ}
 use Rattle.zint.specs.ReadLaws.{r-got, as-unsigned}
 use Rattle.zint.specs.RuleLaws.{zneeds}
-use Rattle.silk_tables.specs.CarriedLaws.{Carried as CarriedPair, contour-abs}
+use Rattle.pitch_settings.specs.SettingsLaws.{analysed-held}
+use Rattle.silk_tables.specs.CarriedLaws.{CarriedPair, contour-abs, coded}
 use Rattle.silk_tables.specs.Rebuild.{Coded, rebuilt}
 use Rattle.silk_pitch_analysis.specs.declared.Verdict.{Verdict}
 use Rattle.silk_pitch_analysis.specs.declared.Verdict.the-variants.{Voiced}
 use Rattle.silk_pitch_analysis.specs.Frame.{lag-of}
-use Rattle.silk_pitch_analysis.specs.FrameLaws.{Carried, pair-of, coded, contour-small}
+use Rattle.silk_pitch_analysis.specs.FrameLaws.{Carried, pair-of, contour-small}
 use Rattle.silk_pitch_analysis.proofs.verdict_lag.Statement.{statement}
 use Rattle.silk_pitch_analysis.proofs.verdict_lag.Tie as tie
 
@@ -38,7 +39,7 @@ whole-contour : (c : tie.After-known-told) → toZ w32 (ofZ w32 (contour (c .bef
 whole-contour c = search zneeds
 
 asked : (c : tie.After-v) → Coded (c .before .before .args .s .rate) (c .before .before .args .s .nb) (index c) (natAbs (contour c)) (c .before .before .args .k)
-asked c = coded (c .before .before .args .s) (pair c) (c .before .before .pre .0) (c .before .before .args .k) (c .before .before .pre .1 .1)
+asked c = coded (c .before .before .args .s) (analysed-held _ (c .before .before .pre .0)) (pair c) (c .before .before .args .k) (c .before .before .pre .1 .1)
 
 enum-known-v : tie.Need-enum-known-v
 enum-known-v c = search zneeds
