@@ -12,7 +12,7 @@ use libc::STDIN_FILENO;
 use pitch_settings::Settings;
 use pitch_settings::frame_length;
 use pitch_settings::settings_no;
-use silk_pitch_analysis::Answer;
+use silk_pitch_analysis::FrameAnswer;
 use silk_pitch_analysis::Verdict;
 use silk_pitch_analysis::silk_pitch_analysis_core;
 
@@ -60,7 +60,7 @@ fn agrees(body: &[u8], n: usize, s: Settings, prev_lag: i32, prev_corr: i32) -> 
     let mut lags = [UNTOUCHED; 4];
     load_i16s(body, 0, &mut frame);
     let answer = silk_pitch_analysis_core(&frame[..n], &mut lags, s, prev_lag, prev_corr);
-    let Answer::Analysed(v) = answer else {
+    let FrameAnswer::Analysed(v) = answer else {
         return false;
     };
     verdict_agrees(body, row, v)

@@ -3,8 +3,8 @@ use mathlib.Core.List.{List, [], _∷_}
 use Prim.Native.Nat.{ℕ}
 use lib.IntN.{ℤ}
 use Rattle.pitch_settings.specs.declared.Settings.{Settings}
-use Rattle.silk_pitch_analysis.specs.declared.Answer.{Answer}
-use Rattle.silk_pitch_analysis.specs.declared.Answer.the-variants.{Analysed, Refused}
+use Rattle.silk_pitch_analysis.specs.declared.FrameAnswer.{FrameAnswer}
+use Rattle.silk_pitch_analysis.specs.declared.FrameAnswer.the-variants.{Analysed, Refused}
 use Rattle.silk_pitch_analysis.specs.Frame.{FrameOutcome, frame-call, verdict-numbers}
 
 abbrev pub settings : ℕ → ℕ → ℕ → ℤ → ℤ → Settings
@@ -24,7 +24,7 @@ abbrev pub exported : ℕ → List ℤ → List ℤ → Exported
 exported k l t = record { number = k; lags = l; told = t }
 
 -- a verdict is told by the four numbers; a refusal leaves those that were there
-abbrev pub answered : Answer → List ℤ → List ℤ → Exported
+abbrev pub answered : FrameAnswer → List ℤ → List ℤ → Exported
 answered (Analysed v) l old = exported 0 l (verdict-numbers v)
 answered (Refused k) l old = exported k l old
 

@@ -10,12 +10,12 @@ use lib.ListN.{length, take}
 use Rattle.pitch_settings.specs.declared.Settings.{Settings}
 use Rattle.pitch_settings.specs.Settings.{frame-length}
 use Rattle.silk_pitch_analysis.specs.declared.Verdict.{Verdict}
-use Rattle.silk_pitch_analysis.specs.declared.Answer.{Answer}
-use Rattle.silk_pitch_analysis.specs.declared.Answer.the-variants.{Refused}
+use Rattle.silk_pitch_analysis.specs.declared.FrameAnswer.{FrameAnswer}
+use Rattle.silk_pitch_analysis.specs.declared.FrameAnswer.the-variants.{Refused}
 use Rattle.silk_pitch_analysis.specs.Frame.{FrameOutcome, frame-outcome, analysed, verdict-of, frame-no, frame-call}
 use Rattle.pitch_export.specs.Export.{Exported, answered, export-call}
 
-pub export-is : (s : Settings) (x l : List ℤ) (prev corr : ℤ) (old : List ℤ) (a : Answer) (m : List ℤ) → frame-outcome a m ≡ frame-call s x l prev corr → answered a m old ≡ export-call s x l prev corr old
+pub export-is : (s : Settings) (x l : List ℤ) (prev corr : ℤ) (old : List ℤ) (a : FrameAnswer) (m : List ℤ) → frame-outcome a m ≡ frame-call s x l prev corr → answered a m old ≡ export-call s x l prev corr old
 unfolding export-call
 export-is s x l prev corr old a m e = ap (λ (o : FrameOutcome). answered (o .answer) (o .lags) old) e
 

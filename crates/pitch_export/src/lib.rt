@@ -3,7 +3,7 @@ ghost use mathlib.Core.Path.{_≡_};
 ghost use Rattle.silk_pitch_analysis.specs.Frame.{verdict-numbers};
 ghost use Rattle.pitch_export.specs.Export.{settings, numbers, exported, export-call};
 use pitch_settings::Settings;
-use silk_pitch_analysis::Answer;
+use silk_pitch_analysis::FrameAnswer;
 use silk_pitch_analysis::Verdict;
 use silk_pitch_analysis::silk_pitch_analysis_core;
 
@@ -68,8 +68,8 @@ pub extern "C" fn pitch_frame(
     };
     let answer = silk_pitch_analysis_core(frame, pitch_out, s, prev_lag, prev_corr);
     match answer {
-        Answer::Refused(no) => no,
-        Answer::Analysed(v) => {
+        FrameAnswer::Refused(no) => no,
+        FrameAnswer::Analysed(v) => {
             put_verdict(v, verdict, index, contour, correlation);
             0
         }

@@ -10,11 +10,12 @@ use mir.Val.{SFits}
 use Rattle.pitch_settings.specs.declared.Settings.{Settings}
 use Rattle.pitch_settings.specs.Settings.{settings-no}
 use Rattle.pitch_table.specs.declared.Row.{Row}
-use Rattle.sheet_rows.specs.Rows.{quiet-row, row-holds}
+use Rattle.pitch_table.specs.Row.{unpitched-row}
+use Rattle.sheet_rows.specs.Rows.{row-holds}
 
 -- what `getD` gives past the end of a list of rows
 abbrev pub no-row : Row
-no-row = quiet-row (pos 1)
+no-row = unpitched-row (pos 1)
 
 -- accepted settings with thresholds of 32 bits, and at most 4,096 rows, each one that a sheet can hold, with a correlation of 32 bits
 pub record Holds (s : Settings) (rs : List Row) : Type 0 where

@@ -9,7 +9,7 @@ use mir.Val.{SFits}
 use Rattle.pitch_settings.specs.declared.Settings.{Settings}
 use Rattle.pitch_table.specs.declared.Row.{Row}
 use Rattle.sheet_bytes.specs.Bytes.{Bytes}
-use Rattle.sheet_rows.specs.Rows.{voiced-row, quiet-row}
+use Rattle.pitch_table.specs.Row.{voiced-row, unpitched-row}
 use Rattle.sheet_sections.specs.declared.Section.the-variants.{Pairs}
 use Rattle.sheet_sections.specs.Sheet.{entries, sheet, sheet-length}
 use Rattle.sheet_page.specs.Page.{numbers-of}
@@ -49,6 +49,6 @@ pub record RoundTrip : Type 0 where
   -- the sizes: four counts, 20 bytes of settings, a byte a frame, 3 and 4 bytes a voiced frame; document 01's three; and the longest
   pub length-is : (s : Settings) (rs : List Row) → length (sheet s rs) ≡ 4 + 20 + (4 + length rs) + (4 + 3 * length (entries Pairs rs)) + (4 + 4 * length (entries Pairs rs))
   pub no-frames : (s : Settings) → length (sheet s []) ≡ 36
-  pub one-unvoiced : (s : Settings) → length (sheet s (quiet-row (pos 1) ∷ [])) ≡ 37
+  pub one-unvoiced : (s : Settings) → length (sheet s (unpitched-row (pos 1) ∷ [])) ≡ 37
   pub one-voiced : (s : Settings) (index contour correlation : ℤ) → length (sheet s (voiced-row s index contour correlation ∷ [])) ≡ 44
   pub longest : (s : Settings) (rs : List Row) → length rs ≤ 4096 → length (sheet s rs) ≤ sheet-length 4096 4096

@@ -19,7 +19,8 @@ use Rattle.pitch_settings.specs.Settings.{settings-no}
 use Rattle.pitch_table.specs.declared.Row.{Row}
 use Rattle.pitch_table.specs.Row.{row-size, numbers, row-at}
 use Rattle.sheet_bytes.specs.Bytes.{Bytes}
-use Rattle.sheet_rows.specs.Rows.{voiced-row, quiet-row, row-holds}
+use Rattle.pitch_table.specs.Row.{voiced-row, unpitched-row}
+use Rattle.sheet_rows.specs.Rows.{row-holds}
 use Rattle.sheet_sections.specs.declared.Section.the-variants.{Pairs}
 use Rattle.sheet_sections.specs.Sheet.{listed, entries, sheet, sheet-length, rows-of}
 use Rattle.sheet_sections.specs.SheetLaws.{length-rows, length-sheet, entries-le}
@@ -270,9 +271,9 @@ no-frames : (s : Settings) → length (sheet s []) ≡ 36
 unfolding sheet-length entries
 no-frames s = length-sheet s []
 
-one-unvoiced : (s : Settings) → length (sheet s (quiet-row (pos 1) ∷ [])) ≡ 37
-unfolding sheet-length entries listed quiet-row eqZ
-one-unvoiced s = length-sheet s (quiet-row (pos 1) ∷ [])
+one-unvoiced : (s : Settings) → length (sheet s (unpitched-row (pos 1) ∷ [])) ≡ 37
+unfolding sheet-length entries listed unpitched-row eqZ
+one-unvoiced s = length-sheet s (unpitched-row (pos 1) ∷ [])
 
 one-voiced : (s : Settings) (index contour correlation : ℤ) → length (sheet s (voiced-row s index contour correlation ∷ [])) ≡ 44
 unfolding sheet-length entries listed voiced-row eqZ

@@ -22,8 +22,9 @@ use Rattle.pitch_table.specs.declared.Row.{Row}
 use Rattle.sheet_bytes.specs.Bytes.{low-bytes, number, number-at, word, signed, signed-at}
 use Rattle.sheet_bytes.specs.BytesLaws.{length-bytes, length-signed, number-at-bytes, word-lt, signed-word}
 use Rattle.sheet_rows.specs.declared.RowRead.the-variants.{Held}
-use Rattle.sheet_rows.specs.Rows.{quiet-row, row-of, row-holds}
-use Rattle.sheet_rows.specs.RowsLaws.{Stands, voiced, quiet, stands, holds-means, holds-small, Small}
+use Rattle.pitch_table.specs.Row.{unpitched-row}
+use Rattle.sheet_rows.specs.Rows.{FieldsFit, row-of, row-holds}
+use Rattle.sheet_rows.specs.RowsLaws.{Stands, voiced, unpitched, stands, holds-means, holds-fit}
 use Rattle.sheet_sections.specs.declared.Section.{Section}
 use Rattle.sheet_sections.specs.declared.Section.the-variants.{Verdicts, Pairs, Correlations}
 use Rattle.sheet_sections.specs.Sheet.{listed, entry, entries, setting-entries, joined, section, sheet, sheet-length, part}
@@ -73,12 +74,12 @@ one k r false e = rw e
 
 -- a row that is not voiced has no pair and no correlation
 pub quiet-zero : (s : Settings) (r : Row) → row-holds s r ≡ true → (r .verdict ≡ pos 0 → ⊥) → (r .index ≡ pos 0) × (r .contour ≡ pos 0) × (r .correlation ≡ pos 0)
-unfolding quiet-row
+unfolding unpitched-row
 quiet-zero s r h g = by (stands s (r .verdict) (r .index) (r .contour) (r .correlation) r (holds-means s r h))
   where
     by : Stands s (r .verdict) (r .index) (r .contour) (r .correlation) r → (r .index ≡ pos 0) × (r .contour ≡ pos 0) × (r .correlation ≡ pos 0)
     by (voiced e k q) = absurd (g e)
-    by (quiet e q) = (ap (λ (x : Row). x .index) q, ap (λ (x : Row). x .contour) q, ap (λ (x : Row). x .correlation) q)
+    by (unpitched e q) = (ap (λ (x : Row). x .index) q, ap (λ (x : Row). x .contour) q, ap (λ (x : Row). x .correlation) q)
 
 long-enough : (n v : ℕ) → 28 ≤ sheet-length n v
 unfolding sheet-length
@@ -189,8 +190,8 @@ module _ (s : Settings) (rs : List Row) (h : Holds s rs) where
     fine : row-holds s r ≡ true
     fine = h .rows i l
 
-    small : Small r
-    small = holds-small s r fine
+    small : FieldsFit r
+    small = holds-fit s r fine
 
     take-length-i : length (take i rs) ≡ i
     take-length-i = length-take-le i rs (omega arith)

@@ -1,2 +1,3 @@
--- Rows of a table.
+-- Rows of a table. Definitions: `Row`; laws: `RowLaws`.
 pub mod Row
+pub mod RowLaws

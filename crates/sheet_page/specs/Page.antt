@@ -15,7 +15,8 @@ use Rattle.pitch_table.specs.Row.{numbers}
 use Rattle.sheet_bytes.specs.Bytes.{number-at, signed-at}
 use Rattle.sheet_rows.specs.declared.RowRead.{RowRead}
 use Rattle.sheet_rows.specs.declared.RowRead.the-variants.{Held, Bad}
-use Rattle.sheet_rows.specs.Rows.{quiet-row, row-of}
+use Rattle.pitch_table.specs.Row.{unpitched-row}
+use Rattle.sheet_rows.specs.Rows.{row-of}
 use Rattle.sheet_sections.specs.Sheet.{sheet-length}
 use Rattle.sheet_page.specs.declared.Head.{Head}
 
@@ -99,7 +100,7 @@ page-no p = cond (well-formed p) 0 9
 -- the row that was read (the second clause is for totality: no sheet has such a row)
 unfoldable pub held : RowRead → Row
 held (Held r) = r
-held Bad = quiet-row (pos 1)
+held Bad = unpitched-row (pos 1)
 
 unfoldable pub rows-in : List ℕ → List Row
 rows-in p = tabulate (λ i. held (row-in p i)) (frames-in p)

@@ -2,9 +2,8 @@
 use mathlib.Core.Path.{_≡_, refl, sym, ap, _∙_}
 use mathlib.Core.Bool.{Bool, true, false, _&&_, _||_, cond, false≢true}
 use mathlib.Core.Logic.{_⊎_, inl, inr}
-use Prim.Native.Nat.{ℕ, _≤_, _<_}
+use Prim.Native.Nat.{ℕ, _≤_}
 use native.Mathlib.Omega.{arith}
-use borrow.Author.Tests.{lt-ltb, le-ltb}
 use lib.IntN.{ℤ, pos, natAbs}
 use Rattle.answers.specs.Answer.{answer-numbers}
 use Rattle.zint.specs.BoundLaws.{abs-ud}
@@ -12,27 +11,18 @@ use Rattle.zint.specs.DiffLaws.{of-le, of-lt, nonneg-dn, zarith}
 use Rattle.zint.specs.ShiftLaws.{nonneg-abs}
 use Rattle.zint.specs.Equal.{eqZ}
 use Rattle.zint.specs.EqualLaws.{eqZ-yes, eqZ-no, eqZ-true}
-use Rattle.silk_tables.specs.Rebuild.{rebuilt, carried}
+use Rattle.silk_tables.specs.Rebuild.{carried}
 use Rattle.zint.specs.BoolLaws.{and-left, and-right}
 use Rattle.silk_tables.specs.ContourLaws.{greatest-le, contours-le-34}
 use Rattle.silk_tables.specs.CarriedLaws.{carried-means}
 use Rattle.pitch_settings.specs.declared.Settings.{Settings}
 use Rattle.pitch_table.specs.declared.Row.{Row}
-use Rattle.pitch_table.specs.Row.{numbers}
+use Rattle.pitch_table.specs.Row.{numbers, voiced-row, unpitched-row}
 use Rattle.sheet_rows.specs.declared.RowRead.{RowRead}
 use Rattle.sheet_rows.specs.declared.RowRead.the-variants.{Held, Bad}
-use Rattle.sheet_rows.specs.Rows.{lag-place, voiced-row, quiet-row, row-of, row-read-numbers, row-no, row-values, same-four, same-row, same-as, row-holds}
+use Rattle.sheet_rows.specs.Rows.{FieldsFit, row-of, row-read-numbers, row-no, row-values, same-numbers, same-row, same-as, row-holds}
 
 -- ---- the definitions by their tests
-
-module _ (s : Settings) (index contour : ℤ) (k : ℕ) where
-  pub lag-in : k < s .nb → lag-place s index contour k ≡ rebuilt (s .rate) (s .nb) index (natAbs contour) k
-  unfolding lag-place
-  lag-in h = rw (lt-ltb k (s .nb) h)
-
-  pub lag-past : s .nb ≤ k → lag-place s index contour k ≡ pos 0
-  unfolding lag-place
-  lag-past h = rw (le-ltb k (s .nb) h)
 
 module _ (s : Settings) (index contour correlation : ℤ) where
   pub row-voiced : {verdict : ℤ} → verdict ≡ pos 0 → carried (s .rate) (s .nb) (s .complexity) index contour ≡ true → row-of s verdict index contour correlation ≡ Held (voiced-row s index contour correlation)
@@ -43,11 +33,11 @@ module _ (s : Settings) (index contour correlation : ℤ) where
   unfolding row-of
   row-not-carried e h = rw (eqZ-yes e, h)
 
-  pub row-unvoiced : {verdict : ℤ} → verdict ≡ pos 1 → row-of s verdict index contour correlation ≡ Held (quiet-row verdict)
+  pub row-unvoiced : {verdict : ℤ} → verdict ≡ pos 1 → row-of s verdict index contour correlation ≡ Held (unpitched-row verdict)
   unfolding row-of eqZ
   row-unvoiced e = rw e
 
-  pub row-zero-divisor : {verdict : ℤ} → verdict ≡ pos 2 → row-of s verdict index contour correlation ≡ Held (quiet-row verdict)
+  pub row-zero-divisor : {verdict : ℤ} → verdict ≡ pos 2 → row-of s verdict index contour correlation ≡ Held (unpitched-row verdict)
   unfolding row-of eqZ
   row-zero-divisor e = rw e
 
@@ -63,8 +53,8 @@ module _ (s : Settings) (verdict index contour correlation : ℤ) {r : RowRead} 
   row-answer e = (e, ap row-read-numbers e ∙ by (eqZ verdict (pos 0)) (carried (s .rate) (s .nb) (s .complexity) index contour) (eqZ verdict (pos 1) || eqZ verdict (pos 2)))
     where
       by : (a b c : Bool)
-          → row-read-numbers (cond a (cond b (Held (voiced-row s index contour correlation)) Bad) (cond c (Held (quiet-row verdict)) Bad))
-          ≡ answer-numbers (cond a (cond b 0 9) (cond c 0 9)) (numbers (cond a (voiced-row s index contour correlation) (quiet-row verdict)))
+          → row-read-numbers (cond a (cond b (Held (voiced-row s index contour correlation)) Bad) (cond c (Held (unpitched-row verdict)) Bad))
+          ≡ answer-numbers (cond a (cond b 0 9) (cond c 0 9)) (numbers (cond a (voiced-row s index contour correlation) (unpitched-row verdict)))
       by true true c = refl
       by true false c = refl
       by false b true = refl
@@ -72,9 +62,9 @@ module _ (s : Settings) (verdict index contour correlation : ℤ) {r : RowRead} 
 
 -- ---- rows that are the same
 
-four : (a0 a1 a2 a3 b0 b1 b2 b3 : ℤ) → same-four a0 a1 a2 a3 b0 b1 b2 b3 ≡ true → (a0 ≡ b0) × (a1 ≡ b1) × (a2 ≡ b2) × (a3 ≡ b3)
-unfolding same-four
-four a0 a1 a2 a3 b0 b1 b2 b3 h =
+numbers-same : (a0 a1 a2 a3 b0 b1 b2 b3 : ℤ) → same-numbers a0 a1 a2 a3 b0 b1 b2 b3 ≡ true → (a0 ≡ b0) × (a1 ≡ b1) × (a2 ≡ b2) × (a3 ≡ b3)
+unfolding same-numbers
+numbers-same a0 a1 a2 a3 b0 b1 b2 b3 h =
     let p = and-right (eqZ a0 b0) (eqZ a1 b1 && (eqZ a2 b2 && eqZ a3 b3)) h in
     let q = and-right (eqZ a1 b1) (eqZ a2 b2 && eqZ a3 b3) p in (
       eqZ-true a0 b0 (and-left (eqZ a0 b0) (eqZ a1 b1 && (eqZ a2 b2 && eqZ a3 b3)) h),
@@ -86,10 +76,10 @@ four a0 a1 a2 a3 b0 b1 b2 b3 h =
 pub same-row-true : (a b : Row) → same-row a b ≡ true → a ≡ b
 unfolding same-row
 same-row-true a b h =
-    let first = same-four (a .verdict) (a .index) (a .contour) (a .correlation) (b .verdict) (b .index) (b .contour) (b .correlation) in
-    let lags = same-four (a .lag0) (a .lag1) (a .lag2) (a .lag3) (b .lag0) (b .lag1) (b .lag2) (b .lag3) in
-    let p = four (a .verdict) (a .index) (a .contour) (a .correlation) (b .verdict) (b .index) (b .contour) (b .correlation) (and-left first lags h) in
-    let q = four (a .lag0) (a .lag1) (a .lag2) (a .lag3) (b .lag0) (b .lag1) (b .lag2) (b .lag3) (and-right first lags h) in
+    let first = same-numbers (a .verdict) (a .index) (a .contour) (a .correlation) (b .verdict) (b .index) (b .contour) (b .correlation) in
+    let lags = same-numbers (a .lag0) (a .lag1) (a .lag2) (a .lag3) (b .lag0) (b .lag1) (b .lag2) (b .lag3) in
+    let p = numbers-same (a .verdict) (a .index) (a .contour) (a .correlation) (b .verdict) (b .index) (b .contour) (b .correlation) (and-left first lags h) in
+    let q = numbers-same (a .lag0) (a .lag1) (a .lag2) (a .lag3) (b .lag0) (b .lag1) (b .lag2) (b .lag3) (and-right first lags h) in
     λ i. record {
       verdict = p .0 i;
       index = p .1 i;
@@ -102,7 +92,7 @@ same-row-true a b h =
     }
 
 pub same-row-self : (a : Row) → same-row a a ≡ true
-unfolding same-row same-four
+unfolding same-row same-numbers
 same-row-self a =
     rw (
       eqZ-yes {z = a .verdict} refl,
@@ -119,7 +109,7 @@ same-row-self a =
 
 pub data Stands (s : Settings) (verdict index contour correlation : ℤ) (r : Row) : Type 0 where
   voiced : verdict ≡ pos 0 → carried (s .rate) (s .nb) (s .complexity) index contour ≡ true → r ≡ voiced-row s index contour correlation → Stands s verdict index contour correlation r
-  quiet : (verdict ≡ pos 1) ⊎ (verdict ≡ pos 2) → r ≡ quiet-row verdict → Stands s verdict index contour correlation r
+  unpitched : (verdict ≡ pos 1) ⊎ (verdict ≡ pos 2) → r ≡ unpitched-row verdict → Stands s verdict index contour correlation r
 
 module _ (s : Settings) (verdict index contour correlation : ℤ) (r : Row) where
   pub stands : row-of s verdict index contour correlation ≡ Held r → Stands s verdict index contour correlation r
@@ -133,43 +123,34 @@ module _ (s : Settings) (verdict index contour correlation : ℤ) (r : Row) wher
       none e = let z : _≡_ {A = ℕ} 0 1 = cc in absurd (omega arith)
 
       by : (a b c d : Bool) → eqZ verdict (pos 0) ≡ a → carried (s .rate) (s .nb) (s .complexity) index contour ≡ b → eqZ verdict (pos 1) ≡ c → eqZ verdict (pos 2) ≡ d
-          → cond a (cond b (Held (voiced-row s index contour correlation)) Bad) (cond (c || d) (Held (quiet-row verdict)) Bad) ≡ Held r
+          → cond a (cond b (Held (voiced-row s index contour correlation)) Bad) (cond (c || d) (Held (unpitched-row verdict)) Bad) ≡ Held r
           → Stands s verdict index contour correlation r
       by true true c d p q u v e = voiced (eqZ-true verdict (pos 0) p) q (same e)
       by true false c d p q u v e = none e
-      by false b true d p q u v e = quiet (inl (eqZ-true verdict (pos 1) u)) (same e)
-      by false b false true p q u v e = quiet (inr (eqZ-true verdict (pos 2) v)) (same e)
+      by false b true d p q u v e = unpitched (inl (eqZ-true verdict (pos 1) u)) (same e)
+      by false b false true p q u v e = unpitched (inr (eqZ-true verdict (pos 2) v)) (same e)
       by false b false false p q u v e = none e
 
   -- the row has the numbers that it was made of: a voiced one all four
   pub stands-verdict : Stands s verdict index contour correlation r → r .verdict ≡ verdict
-  unfolding voiced-row quiet-row
+  unfolding voiced-row unpitched-row
   stands-verdict (voiced e h q) = ap (λ (x : Row). x .verdict) q ∙ sym e
-  stands-verdict (quiet e q) = ap (λ (x : Row). x .verdict) q
+  stands-verdict (unpitched e q) = ap (λ (x : Row). x .verdict) q
 
   pub stands-pair : Stands s verdict index contour correlation r → verdict ≡ pos 0 → (r .index ≡ index) × (r .contour ≡ contour) × (r .correlation ≡ correlation)
   unfolding voiced-row
   stands-pair (voiced e h q) z = (ap (λ (x : Row). x .index) q, ap (λ (x : Row). x .contour) q, ap (λ (x : Row). x .correlation) q)
-  stands-pair (quiet (inl e) q) z = let c : _≡_ {A = ℕ} 0 1 = ap natAbs (sym z ∙ e) in absurd (omega arith)
-  stands-pair (quiet (inr e) q) z = let c : _≡_ {A = ℕ} 0 2 = ap natAbs (sym z ∙ e) in absurd (omega arith)
+  stands-pair (unpitched (inl e) q) z = let c : _≡_ {A = ℕ} 0 1 = ap natAbs (sym z ∙ e) in absurd (omega arith)
+  stands-pair (unpitched (inr e) q) z = let c : _≡_ {A = ℕ} 0 2 = ap natAbs (sym z ∙ e) in absurd (omega arith)
 
   -- and those stand for it again
   pub stands-again : Stands s verdict index contour correlation r → row-of s (r .verdict) (r .index) (r .contour) (r .correlation) ≡ Held r
-  unfolding voiced-row quiet-row
+  unfolding voiced-row unpitched-row
   stands-again (voiced e h q) = rw q (row-voiced s index contour correlation refl h)
-  stands-again (quiet (inl e) q) = rw q (row-unvoiced s (pos 0) (pos 0) (pos 0) e)
-  stands-again (quiet (inr e) q) = rw q (row-zero-divisor s (pos 0) (pos 0) (pos 0) e)
+  stands-again (unpitched (inl e) q) = rw q (row-unvoiced s (pos 0) (pos 0) (pos 0) e)
+  stands-again (unpitched (inr e) q) = rw q (row-zero-divisor s (pos 0) (pos 0) (pos 0) e)
 
 -- ---- a row that a sheet can hold
-
--- its numbers are small and not negative: a verdict up to 2, an index up to 256, a contour of one byte
-pub record Small (r : Row) : Type 0 where
-  pub verdict : r .verdict ≡ pos (natAbs (r .verdict))
-  pub verdict-le : natAbs (r .verdict) ≤ 2
-  pub index : r .index ≡ pos (natAbs (r .index))
-  pub index-le : natAbs (r .index) ≤ 256
-  pub contour : r .contour ≡ pos (natAbs (r .contour))
-  pub contour-le : natAbs (r .contour) ≤ 255
 
 module _ (s : Settings) (r : Row) where
   pub holds-means : row-holds s r ≡ true → row-of s (r .verdict) (r .index) (r .contour) (r .correlation) ≡ Held r
@@ -184,11 +165,11 @@ module _ (s : Settings) (r : Row) where
   unfolding row-holds
   holds-yes e = rw e (same-row-self r)
 
-  pub holds-small : row-holds s r ≡ true → Small r
-  unfolding quiet-row
-  holds-small h = by (stands s (r .verdict) (r .index) (r .contour) (r .correlation) r (holds-means h))
+  pub holds-fit : row-holds s r ≡ true → FieldsFit r
+  unfolding unpitched-row
+  holds-fit h = by (stands s (r .verdict) (r .index) (r .contour) (r .correlation) r (holds-means h))
     where
-      zeros : (v : ℤ) (n : ℕ) → v ≡ pos n → n ≤ 2 → r ≡ quiet-row v → Small r
+      zeros : (v : ℤ) (n : ℕ) → v ≡ pos n → n ≤ 2 → r ≡ unpitched-row v → FieldsFit r
       zeros v n e l q =
           let a : r .verdict ≡ pos n = ap (λ (x : Row). x .verdict) q ∙ e in
           let i : r .index ≡ pos 0 = ap (λ (x : Row). x .index) q in
@@ -202,7 +183,7 @@ module _ (s : Settings) (r : Row) where
             contour-le = rw c (omega arith);
           }
 
-      by : Stands s (r .verdict) (r .index) (r .contour) (r .correlation) r → Small r
+      by : Stands s (r .verdict) (r .index) (r .contour) (r .correlation) r → FieldsFit r
       by (voiced e k q) =
           let p = carried-means k in
           let g = greatest-le (s .rate) in
@@ -217,5 +198,5 @@ module _ (s : Settings) (r : Row) where
             contour = c;
             contour-le = omega (zarith, abs-ud (r .contour), nonneg-dn (p .contour-ge), of-lt (p .contour-lt));
           }
-      by (quiet (inl e) q) = zeros (r .verdict) 1 e (omega arith) q
-      by (quiet (inr e) q) = zeros (r .verdict) 2 e (omega arith) q
+      by (unpitched (inl e) q) = zeros (r .verdict) 1 e (omega arith) q
+      by (unpitched (inr e) q) = zeros (r .verdict) 2 e (omega arith) q

@@ -6,7 +6,7 @@ ghost use lib.ListN.{length};
 ghost use Rattle.pitch_settings.specs.Settings.{settings-no};
 ghost use Rattle.pitch_table.specs.Row.{row-size, row-at};
 ghost use Rattle.sheet_rows.specs.Rows.{row-holds};
-ghost use Rattle.sheet_rows.specs.RowsLaws.{Small};
+ghost use Rattle.sheet_rows.specs.Rows.{FieldsFit};
 ghost use Rattle.lists.specs.Put.{Put};
 ghost use Rattle.sheet_sections.specs.Sheet.{part, entries, section, setting-entries, rows-of, sheet, sheet-length};
 use pitch_settings::Settings;
@@ -61,7 +61,7 @@ fn put_settings(page: &mut [u8], s: Settings) -> usize
 
 // The row's part of a section, from `at` on; the place after it.
 fn put_part(page: &mut [u8], at: usize, which: Section, r: Row) -> usize
-    requires { ⌜ Small r × (at + length (part which r) ≤ length (now page)) ⌝ }
+    requires { ⌜ FieldsFit r × (at + length (part which r) ≤ length (now page)) ⌝ }
     ensures { λ end. ⌜ Put (now (page .entry)) at (part which r) end (now (page .exit)) ⌝ }
 {
     let verdict = r.verdict;
@@ -98,7 +98,7 @@ fn put_section(
     frames: usize,
 ) -> usize
     requires { ⌜ (frames * row-size ≤ length (now table)) × (frames ≤ 4096)
-        × ((i : ℕ) → i < frames → Small (row-at (now table) i))
+        × ((i : ℕ) → i < frames → FieldsFit (row-at (now table) i))
         × (count ≡ length (entries which (rows-of (now table) frames)))
         × (at + length (section (entries which (rows-of (now table) frames))) ≤ length (now page)) ⌝ }
     ensures { λ end. ⌜ Put (now (page .entry)) at (section (entries which (rows-of (now (table .entry)) frames))) end (now (page .exit)) ⌝ }

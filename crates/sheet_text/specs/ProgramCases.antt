@@ -13,7 +13,8 @@ use Rattle.pitch_settings.specs.Settings.{rate-known, subframes-known, settings
 use Rattle.pitch_text.specs.Decimal.{digits-to, digits, decimal}
 use Rattle.pitch_text.specs.Text.{fields, letter-of, values-of, row-text, line-text, lines-text, refused-text}
 use Rattle.sheet_bytes.specs.Bytes.{number, number-at, signed-at}
-use Rattle.sheet_rows.specs.Rows.{lag-place, voiced-row, row-of}
+use Rattle.pitch_table.specs.Row.{pair-lag, voiced-row}
+use Rattle.sheet_rows.specs.Rows.{row-of}
 use Rattle.sheet_sections.specs.Sheet.{sheet-length}
 use Rattle.sheet_page.specs.Page.{sheet-settings, frames-in, verdict-in, voiced-before, voiced-in, pairs-from, pair-place, correlations-from, correlation-place, row-in, readable, head-good, sizes-good, rows-good, well-formed, held}
 use Rattle.sheet_text.specs.Program.{head-values, sheet-head, sheet-report, sheet-text}
@@ -41,5 +42,5 @@ pub text-cases :
     ∷ (56 ∷ 32 ∷ 50 ∷ 32 ∷ 48 ∷ 32 ∷ 45 ∷ 49 ∷ 32 ∷ 55 ∷ 32 ∷ 49 ∷ 10 ∷ 48 ∷ 32 ∷ 86 ∷ 32 ∷ 49 ∷ 50 ∷ 55 ∷ 32 ∷ 49 ∷ 32 ∷ 45 ∷ 50 ∷ 32 ∷ 49 ∷ 52 ∷ 52 ∷ 32 ∷ 49 ∷ 52 ∷ 51 ∷ 10 ∷ [])
     ∷ (114 ∷ 101 ∷ 102 ∷ 117 ∷ 115 ∷ 101 ∷ 100 ∷ 32 ∷ 57 ∷ 10 ∷ [])
     ∷ []
-unfolding sheet-text sheet-report sheet-head head-values lines-text line-text row-text fields letter-of values-of refused-text decimal digits digits-to well-formed head-good sizes-good rows-good every readable held row-in row-of voiced-row lag-place rebuilt carried primary book sheet-settings frames-in verdict-in voiced-before voiced-in pairs-from pair-place correlations-from correlation-place number number-at signed-at sheet-length settings-no rate-known subframes-known wrap modZ eqZ clamp cb-lags-stage2-10-ms offset2 contours2 contours greatest-index
+unfolding sheet-text sheet-report sheet-head head-values lines-text line-text row-text fields letter-of values-of refused-text decimal digits digits-to well-formed head-good sizes-good rows-good every readable held row-in row-of voiced-row pair-lag rebuilt carried primary book sheet-settings frames-in verdict-in voiced-before voiced-in pairs-from pair-place correlations-from correlation-place number number-at signed-at sheet-length settings-no rate-known subframes-known wrap modZ eqZ clamp cb-lags-stage2-10-ms offset2 contours2 contours greatest-index
 text-cases = refl

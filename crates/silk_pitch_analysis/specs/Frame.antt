@@ -1,17 +1,17 @@
--- A frame: what `silk_pitch_analysis_core` answers for the settings s, the frame's samples x and the previous lag and correlation (document 01, "Three stages" and the row rules of
--- "Track"; pitch_analysis.rs). Definitions only; what they say in words is in `Meaning`.
+-- A frame: what `silk_pitch_analysis_core` answers for the settings s, the frame's samples x and the previous lag and correlation (docs/SCOPE.md, Stages and Track;
+-- pitch_analysis.rs). Definitions only; what they say in words is in `Meaning`.
 use mathlib.Core.Bool.{Bool, cond}
 use mathlib.Core.List.{List, [], _∷_}
 use Prim.Native.Nat.{ℕ, _*_, _/_}
 use lib.Dec.{eqb, ltb}
-use lib.IntN.{ℤ, pos, natAbs, _-ℤ_}
+use lib.IntN.{ℤ, pos, _-ℤ_}
 use lib.ListN.{length, take}
 use Rattle.answers.specs.Answer.{answer-numbers}
 use Rattle.lists.specs.Fill.{filled}
 use Rattle.pitch_settings.specs.declared.Settings.{Settings}
 use Rattle.pitch_settings.specs.Settings.{settings-no, frame-length}
 use Rattle.pitch_table.specs.declared.Row.{Row}
-use Rattle.pitch_table.specs.Row.{numbers}
+use Rattle.pitch_table.specs.Row.{numbers, pair-lag, voiced-row, unpitched-row}
 use Rattle.frame_signals.specs.Scale.{scaled}
 use Rattle.frame_signals.specs.Signals.{down-to-8khz, down-to-4khz}
 use Rattle.stage1.specs.Stage1.{stage1, kept}
@@ -23,11 +23,10 @@ use Rattle.stage2.specs.declared.Stage2.the-variants.{ZeroDivisor as Zero2, Unv
 use Rattle.stage3.specs.Stage3.{stage3}
 use Rattle.stage3.specs.declared.Found.{Found}
 use Rattle.stage3.specs.declared.Found.the-variants.{Pair, ZeroDivisor as Zero3}
-use Rattle.silk_tables.specs.Rebuild.{rebuilt}
 use Rattle.silk_pitch_analysis.specs.declared.Verdict.{Verdict}
 use Rattle.silk_pitch_analysis.specs.declared.Verdict.the-variants.{Voiced, Unvoiced, ZeroDivisor}
-use Rattle.silk_pitch_analysis.specs.declared.Answer.{Answer}
-use Rattle.silk_pitch_analysis.specs.declared.Answer.the-variants.{Analysed, Refused}
+use Rattle.silk_pitch_analysis.specs.declared.FrameAnswer.{FrameAnswer}
+use Rattle.silk_pitch_analysis.specs.declared.FrameAnswer.the-variants.{Analysed, Refused}
 use Rattle.silk_pitch_analysis.specs.declared.RowAnswer.{RowAnswer}
 use Rattle.silk_pitch_analysis.specs.declared.RowAnswer.the-variants.{Analysed as RowAnalysed, Refused as RowRefused}
 
@@ -82,48 +81,17 @@ verdict-of s x prev corr = staged s (scaled x) prev corr
 
 -- ---- the row: "verdict (0 voiced, 1 unvoiced, 2 zero divisor), lag index, contour index, correlation, four lags"
 
--- the lag of subframe k: the RFC's rebuilding of the pair; "Unvoiced and zero-divisor rows hold 0 after the verdict"
+-- the lag of subframe k: the RFC's rebuilding of a voiced verdict's pair, else 0
 abbrev pub lag-of : Settings → Verdict → ℕ → ℤ
-lag-of s (Voiced index contour corr) k = rebuilt (s .rate) (s .nb) index (natAbs contour) k
+lag-of s (Voiced index contour corr) k = pair-lag s index contour k
 lag-of s Unvoiced k = pos 0
 lag-of s ZeroDivisor k = pos 0
 
--- "for nb 2 the last two lags are 0"
-unfoldable pub row-lag : Settings → Verdict → ℕ → ℤ
-row-lag s v k = cond (ltb k (s .nb)) (lag-of s v k) (pos 0)
-
-abbrev pub number-of : Verdict → ℤ
-number-of (Voiced index contour corr) = pos 0
-number-of Unvoiced = pos 1
-number-of ZeroDivisor = pos 2
-
-abbrev pub index-of : Verdict → ℤ
-index-of (Voiced index contour corr) = index
-index-of Unvoiced = pos 0
-index-of ZeroDivisor = pos 0
-
-abbrev pub contour-of : Verdict → ℤ
-contour-of (Voiced index contour corr) = contour
-contour-of Unvoiced = pos 0
-contour-of ZeroDivisor = pos 0
-
-abbrev pub correlation-of : Verdict → ℤ
-correlation-of (Voiced index contour corr) = corr
-correlation-of Unvoiced = pos 0
-correlation-of ZeroDivisor = pos 0
-
+-- a voiced verdict's row has its pair and correlation, the two others' nothing after the verdict
 unfoldable pub row-from : Settings → Verdict → Row
-row-from s v =
-    record {
-      verdict = number-of v;
-      index = index-of v;
-      contour = contour-of v;
-      correlation = correlation-of v;
-      lag0 = row-lag s v 0;
-      lag1 = row-lag s v 1;
-      lag2 = row-lag s v 2;
-      lag3 = row-lag s v 3;
-    }
+row-from s (Voiced index contour corr) = voiced-row s index contour corr
+row-from s Unvoiced = unpitched-row (pos 1)
+row-from s ZeroDivisor = unpitched-row (pos 2)
 
 unfoldable pub frame-row : Settings → List ℤ → ℤ → ℤ → Row
 frame-row s x prev corr = row-from s (verdict-of s x prev corr)
@@ -135,10 +103,10 @@ frame-no s n m = cond (eqb (settings-no s) 0) (cond (ltb n (frame-length s)) 4 (
 
 -- the answer, and the lag places at exit
 pub record FrameOutcome : Type 0 where
-  pub answer : Answer
+  pub answer : FrameAnswer
   pub lags : List ℤ
 
-abbrev pub frame-outcome : Answer → List ℤ → FrameOutcome
+abbrev pub frame-outcome : FrameAnswer → List ℤ → FrameOutcome
 frame-outcome a l = record { answer = a; lags = l }
 
 -- the nb lag places are written, and the others kept
@@ -166,7 +134,7 @@ verdict-numbers Unvoiced = pos 1 ∷ pos 0 ∷ pos 0 ∷ pos 0 ∷ []
 verdict-numbers ZeroDivisor = pos 2 ∷ pos 0 ∷ pos 0 ∷ pos 0 ∷ []
 
 -- a refusal is its number; 0 and the verdict's numbers where there is none
-abbrev pub frame-answer-numbers : Answer → List ℤ
+abbrev pub frame-answer-numbers : FrameAnswer → List ℤ
 frame-answer-numbers (Refused k) = pos k ∷ []
 frame-answer-numbers (Analysed v) = pos 0 ∷ verdict-numbers v
 

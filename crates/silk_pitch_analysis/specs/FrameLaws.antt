@@ -13,14 +13,15 @@ use lib.Seq.{take-all}
 use lib.Signed.{_<ℤ_}
 use Rattle.zint.specs.DiffLaws.{eq-of, sub-ud′, of-lt, zarith}
 use Rattle.pitch_settings.specs.declared.Settings.{Settings}
-use Rattle.pitch_settings.specs.Settings.{settings-no, frame-length}
-use Rattle.pitch_settings.specs.SettingsLaws.{accepted-settings}
+use Rattle.pitch_settings.specs.Settings.{settings-no, held-no, frame-length}
+use Rattle.pitch_settings.specs.SettingsLaws.{accepted-settings, analysed-held}
 use Rattle.pitch_table.specs.declared.Row.{Row}
-use Rattle.pitch_table.specs.Row.{numbers}
+use Rattle.pitch_table.specs.Row.{numbers, voiced-row, unpitched-row}
 use Rattle.silk_tables.specs.Tables.{contours, contours2, in-use, greatest-index}
 use Rattle.silk_tables.specs.TableLaws.{in-use-bounds}
 use Rattle.silk_tables.specs.ContourLaws.{contours-le-34}
-use Rattle.silk_tables.specs.CarriedLaws.{CarriedPair, carried-pair, contour-abs}
+use Rattle.silk_tables.specs.Rebuild.{carried}
+use Rattle.silk_tables.specs.CarriedLaws.{CarriedPair, carried-pair, carried-yes}
 use Rattle.frame_signals.specs.Signals.{down-to-8khz, down-to-4khz}
 use Rattle.frame_signals.specs.SignalLaws.{length-eight, length-four}
 use Rattle.stage3.specs.Stage3.{stage3, Handed}
@@ -29,41 +30,30 @@ use Rattle.stage3.specs.MeaningLaws.{stage3-means}
 use Rattle.stage3.specs.declared.Found.the-variants.{Pair}
 use Rattle.silk_pitch_analysis.specs.declared.Verdict.{Verdict}
 use Rattle.silk_pitch_analysis.specs.declared.Verdict.the-variants.{Voiced, Unvoiced, ZeroDivisor}
-use Rattle.silk_pitch_analysis.specs.declared.Answer.{Answer}
-use Rattle.silk_pitch_analysis.specs.declared.Answer.the-variants.{Refused}
+use Rattle.silk_pitch_analysis.specs.declared.FrameAnswer.{FrameAnswer}
+use Rattle.silk_pitch_analysis.specs.declared.FrameAnswer.the-variants.{Refused}
 use Rattle.silk_pitch_analysis.specs.declared.RowAnswer.{RowAnswer}
 use Rattle.silk_pitch_analysis.specs.declared.RowAnswer.the-variants.{Analysed as RowAnalysed, Refused as RowRefused}
+use Rattle.silk_pitch_analysis.specs.Steps.{WinnerRange, VerdictCarried, voiced}
 use Rattle.silk_pitch_analysis.specs.Frame.{from-pair, verdict-of, row-from, frame-row, frame-no, FrameOutcome, frame-outcome, analysed, frame-call, row-answer, verdict-numbers, frame-answer-numbers, row-answer-in-numbers, frame-in-numbers, row-in-numbers}
 
--- a voiced verdict's pair has an index and a contour of these settings
-pub data Carried (s : Settings) : Verdict → Type 0 where
-  voiced : {index contour corr : ℤ} → CarriedPair (s .rate) (s .nb) (s .complexity) index contour → Carried s (Voiced index contour corr)
-  unvoiced : Carried s Unvoiced
-  zero-divisor : Carried s ZeroDivisor
-
-pub pair-of : {s : Settings} {index contour corr : ℤ} → Carried s (Voiced index contour corr) → CarriedPair (s .rate) (s .nb) (s .complexity) index contour
-pair-of (voiced p) = p
+-- what a voiced verdict's row asks
+pub pair-of : {s : Settings} {v : Verdict} {index contour corr : ℤ} → settings-no s ≡ 0 → VerdictCarried s v → v ≡ Voiced index contour corr
+    → (held-no s ≡ 0) × (carried (s .rate) (s .nb) (s .complexity) index contour ≡ true)
+pair-of {s} {v} {index} {contour} {corr} h p e = (analysed-held s h, by (subst (VerdictCarried s) e p))
+  where
+    by : VerdictCarried s (Voiced index contour corr) → carried (s .rate) (s .nb) (s .complexity) index contour ≡ true
+    by (voiced q) = q
 
 pub pair-carried : (s : Settings) (corr : ℤ) (lag contour : ℕ) → 2 * s .rate ≤ lag → lag ≤ 2 * s .rate + greatest-index (s .rate) → contour < contours (s .rate) (s .nb) (s .complexity)
-    → Carried s (from-pair (s .rate) corr (Pair lag contour))
+    → VerdictCarried s (from-pair (s .rate) corr (Pair lag contour))
 pair-carried s corr lag contour l h c =
     let e : pos (lag - 2 * s .rate) ≡ pos lag -ℤ pos (2 * s .rate) = eq-of _ _ (omega (arith, sub-ud′ (pos lag) (pos (2 * s .rate)))) in
-    voiced (subst (λ (i : ℤ). CarriedPair (s .rate) (s .nb) (s .complexity) i (pos contour)) e (carried-pair (omega arith) c))
-
-module _ (s : Settings) {index contour : ℤ} (p : CarriedPair (s .rate) (s .nb) (s .complexity) index contour) where
-  pub contour-small : natAbs contour < 34
-  contour-small =
-      omega (zarith, contours-le-34 (s .rate) (s .nb) (s .complexity), of-lt (subst (λ (z : ℤ). z <ℤ pos (contours (s .rate) (s .nb) (s .complexity))) (contour-abs p) (p .contour-lt)))
-
--- what the last stage is handed: a winner of stage 2, with a contour that stage 2 tries
-pub record Won (s : Settings) (lag contour : ℕ) : Type 0 where
-  pub low : 16 ≤ lag
-  pub high : lag ≤ 143
-  pub tried : contour < contours2 (s .rate) (s .nb) (s .complexity)
+    voiced (carried-yes (subst (λ (i : ℤ). CarriedPair (s .rate) (s .nb) (s .complexity) i (pos contour)) e (carried-pair (omega arith) c)))
 
 -- ---- the scaled winner lies within 2 fs to 18 fs, so stage 3 is handed what it asks
 
-module _ (s : Settings) (w : List ℤ) (h : settings-no s ≡ 0) (len : length w ≡ frame-length s) (lag contour : ℕ) (won : Won s lag contour) where
+module _ (s : Settings) (w : List ℤ) (h : settings-no s ≡ 0) (len : length w ≡ frame-length s) (lag contour : ℕ) (won : WinnerRange s lag contour) where
   pub handed : (s .rate ≡ 8 → ⊥) → Handed w (s .rate) (s .nb) (s .complexity) (lag * s .rate / 8)
   unfolding frame-length
   handed g =
@@ -79,9 +69,9 @@ module _ (s : Settings) (w : List ℤ) (h : settings-no s ≡ 0) (len : length w
       }
 
   -- stage 3's pair: a lag within 2 fs to 18 fs, a contour in use
-  pub pair-lag : (g : s .rate ≡ 8 → ⊥) (d j : ℕ) → stage3 w (s .rate) (s .nb) (s .complexity) (lag * s .rate / 8) ≡ Pair d j
+  pub stage3-range : (g : s .rate ≡ 8 → ⊥) (d j : ℕ) → stage3 w (s .rate) (s .nb) (s .complexity) (lag * s .rate / 8) ≡ Pair d j
       → (2 * s .rate ≤ d) × ((d ≤ 18 * s .rate) × (j < in-use (s .nb) (s .complexity)))
-  pair-lag g d j e =
+  stage3-range g d j e =
       let r = handed g in
       let m : Meaning w (s .rate) (s .nb) (s .complexity) (lag * s .rate / 8) (Pair d j) = subst (Meaning w (s .rate) (s .nb) (s .complexity) (lag * s .rate / 8)) e (stage3-means w (s .rate) (s .nb) (s .complexity) (lag * s .rate / 8) r) in
       ⊎-elim
@@ -142,7 +132,7 @@ no-refusal o r n e h = let z : _≡_ {A = ℕ} 0 1 = cc in omega arith
 
 -- a verdict's numbers are the row's first four
 verdict-told : (s : Settings) (v : Verdict) → verdict-numbers v ≡ take 4 (numbers (row-from s v))
-unfolding row-from
+unfolding row-from voiced-row unpitched-row
 verdict-told s (Voiced index contour corr) = refl
 verdict-told s Unvoiced = refl
 verdict-told s ZeroDivisor = refl
@@ -154,7 +144,7 @@ frame-told s v l k true e = rw (eqb-true k 0 e) (ap (λ (n : List ℤ). pos 0 �
 frame-told s v l k false e = refl
 
 -- so an outcome that is the defined one is told by the defined numbers
-pub answer-told : (s : Settings) (x l : List ℤ) (prev corr : ℤ) (a : Answer) (m : List ℤ) → frame-outcome a m ≡ frame-call s x l prev corr
+pub answer-told : (s : Settings) (x l : List ℤ) (prev corr : ℤ) (a : FrameAnswer) (m : List ℤ) → frame-outcome a m ≡ frame-call s x l prev corr
     → (frame-outcome a m ≡ frame-call s x l prev corr) × (frame-answer-numbers a ≡ frame-in-numbers s x (length l) prev corr)
 unfolding frame-call frame-in-numbers frame-row
 answer-told s x l prev corr a m e = (

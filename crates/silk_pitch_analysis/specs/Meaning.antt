@@ -76,9 +76,11 @@ module _ (s : Settings) (x : List ℤ) (prev corr : ℤ) where
   abbrev pub UnvoicedWhen : Type 0
   UnvoicedWhen = (Zero1 → ⊥) × (UnderBest ⊎ (GoesOn × ((Zero2 → ⊥) × NonePasses)))
 
-  -- a zero divisor in stage 1, or in a later stage that is entered
-  abbrev pub ZeroWhen : Type 0
-  ZeroWhen = Zero1 ⊎ (GoesOn × (Zero2 ⊎ ((s .rate ≡ 8 → ⊥) × ((lag : ℕ) × (contour : ℕ) × (r : ℤ) × (Won lag contour r × Zero3 lag)))))
+  -- a divisor reached is zero: in stage 1; in stage 2, which is entered where stage 1 goes on; in stage 3, which is entered at 12 and 16 kHz with stage 2's winner
+  pub data ZeroWhen : Type 0 where
+    stage1-zero : Zero1 → ZeroWhen
+    stage2-zero : GoesOn → Zero2 → ZeroWhen
+    stage3-zero : GoesOn → (s .rate ≡ 8 → ⊥) → (winner winner-contour : ℕ) (r : ℤ) → Won winner winner-contour r → Zero3 winner → ZeroWhen
 
   -- the pair's lag d and contour j, and the winner's correlation
   pub record VoicedWhen (index contour r : ℤ) : Type 0 where

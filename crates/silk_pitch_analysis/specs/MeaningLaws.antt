@@ -32,8 +32,9 @@ use Rattle.stage3.specs.declared.Found.the-variants.{Pair, ZeroDivisor as ZeroI
 use Rattle.silk_pitch_analysis.specs.declared.Verdict.{Verdict}
 use Rattle.silk_pitch_analysis.specs.declared.Verdict.the-variants.{Voiced, Unvoiced, ZeroDivisor}
 use Rattle.silk_pitch_analysis.specs.Frame.{scaled-lag, from-pair, last-stage, from-winner, second-stage, from-screen, staged, verdict-of}
-use Rattle.silk_pitch_analysis.specs.FrameLaws.{Won as Handed, handed, eight-length, four-length}
-use Rattle.silk_pitch_analysis.specs.Meaning.{w, e, f, lags, Zero1, Zero2, Zero3, UnderBest, GoesOn, NonePasses, Won, Best3, Last, UnvoicedWhen, ZeroWhen, VoicedWhen, Means, VerdictExactly}
+use Rattle.silk_pitch_analysis.specs.Steps.{WinnerRange}
+use Rattle.silk_pitch_analysis.specs.FrameLaws.{handed, eight-length, four-length}
+use Rattle.silk_pitch_analysis.specs.Meaning.{w, e, f, lags, Zero1, Zero2, Zero3, UnderBest, GoesOn, NonePasses, Won, Best3, Last, UnvoicedWhen, ZeroWhen, stage1-zero, stage2-zero, stage3-zero, VoicedWhen, Means, VerdictExactly}
 
 module _ (s : Settings) (x : List ℤ) (prev corr : ℤ) (h : settings-no s ≡ 0) (len : length x ≡ frame-length s) where
   abbrev W : List ℤ
@@ -72,7 +73,7 @@ module _ (s : Settings) (x : List ℤ) (prev corr : ℤ) (h : settings-no s ≡ 
       }
 
   -- a winner is what the last stage may be handed
-  range : {lag contour : ℕ} {r : ℤ} → Won s x prev corr lag contour r → Handed s lag contour
+  range : {lag contour : ℕ} {r : ℤ} → Won s x prev corr lag contour r → WinnerRange s lag contour
   range won = record { low = won .passes-so .lists .at-least; high = won .passes-so .lists .at-most; tried = won .contour .tried }
 
   -- ---- the last stage
@@ -104,7 +105,7 @@ module _ (s : Settings) (x : List ℤ) (prev corr : ℤ) (h : settings-no s ≡ 
 
     by-found : (g : s .rate ≡ 8 → ⊥) (a : Found) → third ≡ a → Means s x prev corr (from-pair (s .rate) r a)
     by-found g (Pair d j) q = let m = third-means g (Pair d j) q in voiced d j (inr (g, (λ z. m .0 (z .0) (z .1) (z .2), m .1)))
-    by-found g ZeroIn3 q = inr (go .goes, inr (g, (lag, contour, r, (won, third-means g ZeroIn3 q))))
+    by-found g ZeroIn3 q = stage3-zero (go .goes) g lag contour r won (third-means g ZeroIn3 q)
 
     last-means : Means s x prev corr (last-stage s W lag contour r)
     unfolding last-stage
@@ -121,14 +122,14 @@ module _ (s : Settings) (x : List ℤ) (prev corr : ℤ) (h : settings-no s ≡ 
       let m = second-means (Winner d j r) q in
       last-means go (λ z. m .0 (z .0) (z .1) (z .2)) d j r (m .1)
   by-winner go NoWinner q = let m = second-means NoWinner q in (go .no-zero1, inr (go .goes, (λ z. m .0 (z .0) (z .1) (z .2), m .1)))
-  by-winner go ZeroIn2 q = inr (go .goes, inl (second-means ZeroIn2 q))
+  by-winner go ZeroIn2 q = stage2-zero (go .goes) (second-means ZeroIn2 q)
 
   by-screen : (c : Screen) → stage1 (f s x prev corr) (s .nb) (s .complexity) (s .thres1) .screen ≡ c
       → Means s x prev corr (from-screen s W (e s x prev corr) (f s x prev corr) prev corr c)
   unfolding second-stage
   by-screen Goes q = by-winner (entered q) second refl
   by-screen Low q = let u = unvoiced-only (f s x prev corr) (s .nb) (s .complexity) (s .thres1) handed1 q in (λ z. u .0 (z .0) (z .1) (z .2), inl (u .1))
-  by-screen Zeroed q = inl (zero-only (f s x prev corr) (s .nb) (s .complexity) (s .thres1) handed1 q)
+  by-screen Zeroed q = stage1-zero (zero-only (f s x prev corr) (s .nb) (s .complexity) (s .thres1) handed1 q)
 
   -- the verdict means what `Meaning` says
   pub verdict-means : Means s x prev corr (verdict-of s x prev corr)
@@ -173,25 +174,28 @@ module _ (s : Settings) (x : List ℤ) (prev corr : ℤ) (h : settings-no s ≡ 
       ∙ last-says (v .winner) (v .winner-contour) r (v .won) (v .lag) (v .lag-contour) (v .last)
       ∙ (λ i. Voiced (sym (v .index-is) i) (sym (v .contour-is) i) r)
 
-  -- a zero divisor of stage 2, or of stage 3 from the winner, where stage 1 goes on
-  later-zero : screen ≡ Goes → Zero2 s x prev corr ⊎ ((s .rate ≡ 8 → ⊥) × ((lag : ℕ) × (contour : ℕ) × (r : ℤ) × (Won s x prev corr lag contour r × Zero3 s x prev corr lag)))
-      → verdict-of s x prev corr ≡ ZeroDivisor
-  later-zero q (inl z) = second-says q ZeroIn2 z
-  later-zero q (inr (g, (lag, contour, r, (won, z)))) = by second refl
+  -- a zero divisor of stage 3 from the winner, where stage 1 goes on
+  third-zero : screen ≡ Goes → (s .rate ≡ 8 → ⊥) → (lag contour : ℕ) (r : ℤ) → Won s x prev corr lag contour r → Zero3 s x prev corr lag → verdict-of s x prev corr ≡ ZeroDivisor
+  third-zero q g lag contour r won z = by second refl
     where
       by : (a : Stage2) → second ≡ a → verdict-of s x prev corr ≡ ZeroDivisor
       by ZeroIn2 p = second-says q ZeroIn2 (second-means ZeroIn2 p)
       by NoWinner p = absurd (second-means NoWinner p .1 lag (won .passes-so))
       by (Winner d j t) p = second-says q (Winner lag contour r) (second-means (Winner d j t) p .0, won) ∙ third-says lag contour r won g ZeroIn3 z
 
-  zero-by : ZeroWhen s x prev corr → verdict-of s x prev corr ≡ ZeroDivisor
-  zero-by (inl (a, d, z)) = screen-says Zeroed (zero-where (f s x prev corr) (s .nb) (s .complexity) (s .thres1) a d z)
-  zero-by (inr (g, z)) = by screen refl
+  -- where a lag's score goes on, stage 1 goes on or reaches a zero divisor
+  going : GoesOn s x prev corr → (screen ≡ Goes → verdict-of s x prev corr ≡ ZeroDivisor) → verdict-of s x prev corr ≡ ZeroDivisor
+  going g later = by screen refl
     where
       by : (c : Screen) → screen ≡ c → verdict-of s x prev corr ≡ ZeroDivisor
       by Zeroed q = screen-says Zeroed q
       by Low q = clashℤ (unvoiced-only (f s x prev corr) (s .nb) (s .complexity) (s .thres1) handed1 q .1 (g .0) (g .1 .0)) (g .1 .1)
-      by Goes q = later-zero q z
+      by Goes q = later q
+
+  zero-by : ZeroWhen s x prev corr → verdict-of s x prev corr ≡ ZeroDivisor
+  zero-by (stage1-zero (a, d, z)) = screen-says Zeroed (zero-where (f s x prev corr) (s .nb) (s .complexity) (s .thres1) a d z)
+  zero-by (stage2-zero g z) = going g (λ q. second-says q ZeroIn2 z)
+  zero-by (stage3-zero g n lag contour r won z) = going g (λ q. third-zero q n lag contour r won z)
 
   only : (v : Verdict) → Means s x prev corr v → verdict-of s x prev corr ≡ v
   only (Voiced index contour r) m = voiced-by index contour r m

@@ -4,12 +4,12 @@ ghost use Prim.Native.Nat.{_+_, _*_, _<_, _≤_};
 ghost use lib.ListN.{length, take};
 ghost use Rattle.lists.specs.Fill.{filled};
 ghost use Rattle.pitch_settings.specs.Settings.{settings-no, frame-length};
-ghost use Rattle.silk_pitch_analysis.specs.Frame.{from-pair, last-stage, from-winner, from-screen, staged, verdict-of, lag-of, row-lag, row-from, row-answer, frame-no, frame-outcome, frame-call, frame-answer-numbers, row-answer-in-numbers, frame-in-numbers, row-in-numbers};
+ghost use Rattle.silk_pitch_analysis.specs.Frame.{from-pair, last-stage, from-winner, from-screen, staged, verdict-of, lag-of, row-from, row-answer, frame-no, frame-outcome, frame-call, frame-answer-numbers, row-answer-in-numbers, frame-in-numbers, row-in-numbers};
 ghost use Rattle.stage1.specs.Stage1.{stage1};
 ghost use Rattle.stage2.specs.Stage2.{stage2};
 ghost use Rattle.stage2_correlations.specs.Marks.{Kept};
 ghost use Rattle.stage3.specs.declared.Found.the-variants.{Pair};
-ghost use Rattle.silk_pitch_analysis.specs.FrameLaws.{Carried, Won};
+ghost use Rattle.silk_pitch_analysis.specs.Steps.{VerdictCarried, WinnerRange};
 use frame_signals::frame_4khz;
 use frame_signals::frame_8khz;
 use frame_signals::frame_shift;
@@ -19,7 +19,9 @@ use pitch_settings::Settings;
 use pitch_settings::frame_length;
 use pitch_settings::settings_no;
 use pitch_table::Row;
-use silk_tables::rebuild::lag_of;
+use pitch_table::pair_lag;
+use pitch_table::unpitched_row;
+use pitch_table::voiced_row;
 use stage1::Screen;
 use stage1::search_stage1;
 use stage2::Stage2;
@@ -39,7 +41,7 @@ pub enum Verdict {
 }
 
 // What the frame call says: the verdict, or the number of a refusal.
-pub enum Answer {
+pub enum FrameAnswer {
     Analysed(Verdict),
     Refused(usize),
 }
@@ -85,7 +87,7 @@ fn voiced(fs_khz: usize, lag: usize, contour: usize, correlation: i32) -> Verdic
 
 // The verdict of stage 2's winner: at 8 kHz its own pair, else stage 3's.
 fn last_stage(w: &[i16], s: Settings, lag: usize, contour: usize, correlation: i32) -> Verdict
-    requires { ⌜ (settings-no s ≡ 0) × ((length (now w) ≡ frame-length s) × Won s lag contour) ⌝ }
+    requires { ⌜ (settings-no s ≡ 0) × ((length (now w) ≡ frame-length s) × WinnerRange s lag contour) ⌝ }
     ensures { λ r. ⌜ r ≡ last-stage s (now (w .entry)) lag contour correlation ⌝ }
 {
     let fs_khz = s.rate;
@@ -103,7 +105,7 @@ fn last_stage(w: &[i16], s: Settings, lag: usize, contour: usize, correlation: i
 
 // The lag of subframe k.
 fn verdict_lag(s: Settings, v: Verdict, k: usize) -> i32
-    requires { ⌜ (settings-no s ≡ 0) × (Carried s v × (k < s .nb)) ⌝ }
+    requires { ⌜ (settings-no s ≡ 0) × VerdictCarried s v ⌝ }
     ensures { λ r. ⌜ r ≡ lag-of s v k ⌝ }
 {
     match v {
@@ -111,73 +113,31 @@ fn verdict_lag(s: Settings, v: Verdict, k: usize) -> i32
             index,
             contour,
             correlation: _,
-        } => lag_of(s.rate, s.nb, index, contour as usize, k),
+        } => pair_lag(s, index, contour, k),
         Verdict::Unvoiced => 0,
         Verdict::ZeroDivisor => 0,
     }
 }
 
-fn row_lag(s: Settings, v: Verdict, k: usize) -> i32
-    requires { ⌜ (settings-no s ≡ 0) × Carried s v ⌝ }
-    ensures { λ r. ⌜ r ≡ row-lag s v k ⌝ }
-{
-    let nb = s.nb;
-    if k < nb {
-        return verdict_lag(s, v, k);
-    }
-    0
-}
-
 // The row of a verdict.
 fn verdict_row(s: Settings, v: Verdict) -> Row
-    requires { ⌜ (settings-no s ≡ 0) × Carried s v ⌝ }
+    requires { ⌜ (settings-no s ≡ 0) × VerdictCarried s v ⌝ }
     ensures { λ r. ⌜ r ≡ row-from s v ⌝ }
 {
-    let lag0 = row_lag(s, v, 0);
-    let lag1 = row_lag(s, v, 1);
-    let lag2 = row_lag(s, v, 2);
-    let lag3 = row_lag(s, v, 3);
     match v {
         Verdict::Voiced {
             index,
             contour,
             correlation,
-        } => Row {
-            verdict: 0,
-            index,
-            contour,
-            correlation,
-            lag0,
-            lag1,
-            lag2,
-            lag3,
-        },
-        Verdict::Unvoiced => Row {
-            verdict: 1,
-            index: 0,
-            contour: 0,
-            correlation: 0,
-            lag0,
-            lag1,
-            lag2,
-            lag3,
-        },
-        Verdict::ZeroDivisor => Row {
-            verdict: 2,
-            index: 0,
-            contour: 0,
-            correlation: 0,
-            lag0,
-            lag1,
-            lag2,
-            lag3,
-        },
+        } => voiced_row(s, index, contour, correlation),
+        Verdict::Unvoiced => unpitched_row(1),
+        Verdict::ZeroDivisor => unpitched_row(2),
     }
 }
 
 // The lags of the nb subframes.
 fn put_lags(out: &mut [i32], s: Settings, v: Verdict)
-    requires { ⌜ (settings-no s ≡ 0) × (Carried s v × (s .nb ≤ length (now out))) ⌝ }
+    requires { ⌜ (settings-no s ≡ 0) × (VerdictCarried s v × (s .nb ≤ length (now out))) ⌝ }
     ensures { λ _. ⌜ now (out .exit) ≡ filled (lag-of s v) (s .nb) (now (out .entry)) ⌝ }
 {
     let nb = s.nb;
@@ -288,15 +248,15 @@ pub fn silk_pitch_analysis_core(
     s: Settings,
     prev_lag: i32,
     prev_corr: i32,
-) -> Answer
+) -> FrameAnswer
     ensures { λ r. ⌜ frame-outcome r (now («pitch_out» .exit)) ≡ frame-call s (now (frame .entry)) (now («pitch_out» .entry)) «prev_lag» «prev_corr» ⌝ }
     ensures { λ r. ⌜ frame-answer-numbers r ≡ frame-in-numbers s (now (frame .entry)) (length (now («pitch_out» .entry))) «prev_lag» «prev_corr» ⌝ }
 {
     let no = frame_no(s, frame.len(), pitch_out.len());
     if no != 0 {
-        return Answer::Refused(no);
+        return FrameAnswer::Refused(no);
     }
     let v = analyse(frame, s, prev_lag, prev_corr);
     put_lags(pitch_out, s, v);
-    Answer::Analysed(v)
+    FrameAnswer::Analysed(v)
 }

@@ -1,6 +1,6 @@
 -- Every row of a whole frame is one that a sheet can hold, and its correlation has 32 bits.
 use mathlib.Core.Path.{_≡_, refl}
-use mathlib.Core.Bool.{Bool, true, false, cond}
+use mathlib.Core.Bool.{true}
 use mathlib.Core.List.{List}
 use Prim.Native.Nat.{_≤_}
 use native.Mathlib.Omega.{arith}
@@ -10,7 +10,6 @@ use lib.Signed.{quotZ}
 use mir.Syntax.{w32}
 use mir.Val.{SFits}
 use Rattle.zint.specs.BoundLaws.{abs-prod, abs-fits}
-use Rattle.silk_tables.specs.CarriedLaws.{carried-yes}
 use Rattle.stage2_correlations.specs.Correlations.{correlation}
 use Rattle.stage2_correlations.specs.RowLaws.{correlation-small}
 use Rattle.stage2.specs.Scores.{contour-sum}
@@ -20,39 +19,22 @@ use Rattle.pitch_settings.specs.Settings.{settings-no, frame-length}
 use Rattle.pitch_settings.specs.SettingsLaws.{accepted-settings}
 use Rattle.silk_pitch_analysis.specs.declared.Verdict.{Verdict}
 use Rattle.silk_pitch_analysis.specs.declared.Verdict.the-variants.{Voiced, Unvoiced, ZeroDivisor}
-use Rattle.silk_pitch_analysis.specs.Frame.{row-lag, row-from, frame-row, verdict-of}
-use Rattle.silk_pitch_analysis.specs.FrameLaws.{Carried, voiced, unvoiced, zero-divisor}
+use Rattle.silk_pitch_analysis.specs.Frame.{row-from, frame-row, verdict-of}
+use Rattle.silk_pitch_analysis.specs.Steps.{VerdictCarried, voiced, unvoiced, zero-divisor}
 use Rattle.silk_pitch_analysis.specs.VerdictLaws.{verdict-carried}
 use Rattle.silk_pitch_analysis.specs.Meaning.{e, lags, Means, VoicedWhen}
 use Rattle.silk_pitch_analysis.specs.MeaningLaws.{verdict-means}
-use Rattle.sheet_rows.specs.Rows.{lag-place, voiced-row, quiet-row, row-holds}
+use Rattle.pitch_table.specs.Row.{voiced-row, unpitched-row}
+use Rattle.sheet_rows.specs.Rows.{row-holds}
 use Rattle.sheet_rows.specs.RowsLaws.{row-voiced, row-unvoiced, row-zero-divisor, holds-yes}
 
--- ---- a verdict's row, as a sheet has it
+-- ---- the row of a verdict whose pair is carried
 
-either : (b : Bool) (z : ℤ) → cond b z z ≡ z
-either true z = refl
-either false z = refl
-
-module _ (s : Settings) where
-  voiced-is : (index contour corr : ℤ) → row-from s (Voiced index contour corr) ≡ voiced-row s index contour corr
-  unfolding row-from row-lag voiced-row lag-place
-  voiced-is index contour corr = refl
-
-  unvoiced-is : row-from s Unvoiced ≡ quiet-row (pos 1)
-  unfolding row-from row-lag quiet-row
-  unvoiced-is = simp either
-
-  zero-is : row-from s ZeroDivisor ≡ quiet-row (pos 2)
-  unfolding row-from row-lag quiet-row
-  zero-is = simp either
-
-  -- a verdict whose pair is carried
-  holds : {v : Verdict} → Carried s v → row-holds s (row-from s v) ≡ true
-  unfolding voiced-row quiet-row
-  holds (voiced {index} {contour} {corr} p) = rw (voiced-is index contour corr) (holds-yes s (voiced-row s index contour corr) (row-voiced s index contour corr refl (carried-yes p)))
-  holds unvoiced = rw unvoiced-is (holds-yes s (quiet-row (pos 1)) (row-unvoiced s (pos 0) (pos 0) (pos 0) refl))
-  holds zero-divisor = rw zero-is (holds-yes s (quiet-row (pos 2)) (row-zero-divisor s (pos 0) (pos 0) (pos 0) refl))
+holds : (s : Settings) {v : Verdict} → VerdictCarried s v → row-holds s (row-from s v) ≡ true
+unfolding row-from voiced-row unpitched-row
+holds s (voiced {index} {contour} {corr} p) = holds-yes s (voiced-row s index contour corr) (row-voiced s index contour corr refl p)
+holds s unvoiced = holds-yes s (unpitched-row (pos 1)) (row-unvoiced s (pos 0) (pos 0) (pos 0) refl)
+holds s zero-divisor = holds-yes s (unpitched-row (pos 2)) (row-zero-divisor s (pos 0) (pos 0) (pos 0) refl)
 
 -- ---- the correlation: 4 × (sum / nb) of correlations of 16 bits
 
@@ -68,7 +50,7 @@ module _ (s : Settings) (x : List ℤ) (prev corr : ℤ) (h : settings-no s ≡ 
       rw (w .correlates) (abs-prod {A = 32768} {B = 4} (quotZ sum (pos (s .nb))) (pos 4) part (omega arith))
 
   correlation-fits : (v : Verdict) → Means s x prev corr v → SFits w32 (row-from s v .correlation)
-  unfolding row-from
+  unfolding row-from voiced-row unpitched-row
   correlation-fits (Voiced index contour r) m = abs-fits {K = 131072} r tt (voiced-small m)
   correlation-fits Unvoiced m = abs-fits {K = 0} (pos 0) tt (omega arith)
   correlation-fits ZeroDivisor m = abs-fits {K = 0} (pos 0) tt (omega arith)

@@ -5,7 +5,7 @@ use borrow.Author.Needs.{needs}
 use lib.IntN.{ℤ}
 use Rattle.pitch_settings.specs.declared.Settings.{Settings}
 use Rattle.zint.specs.ReadLaws.{r-var}
-use Rattle.silk_pitch_analysis.specs.declared.Answer.{Answer}
+use Rattle.silk_pitch_analysis.specs.declared.FrameAnswer.{FrameAnswer}
 use Rattle.silk_pitch_analysis.specs.Frame.{frame-outcome, frame-call}
 use Rattle.pitch_export.specs.Export.{settings, numbers, exported, answered, export-call}
 use Rattle.pitch_export.specs.ExportLaws.{export-is}
@@ -54,7 +54,7 @@ same-length c = search needs
 returns : tie.Need-returns
 returns c =
     let f = c .before .before .before .before in
-    ap (λ (a : Answer). answered a (at-exit f) (old f)) (sym (c .before .answer .given .1)) ∙ told f
+    ap (λ (a : FrameAnswer). answered a (at-exit f) (old f)) (sym (c .before .answer .given .1)) ∙ told f
 
 same-length-2 : tie.Need-same-length-2
 same-length-2 c = search needs
@@ -63,7 +63,7 @@ returns-2 : tie.Need-returns-2
 returns-2 c =
     let k = c .before .before .before .before .before .before in
     let f = k .before .before .before in
-    (λ i. exported 0 (at-exit f) (c .put-verdict .ensures i)) ∙ ap (λ (a : Answer). answered a (at-exit f) (old f)) (sym (k .answer2 .given .1)) ∙ told f
+    (λ i. exported 0 (at-exit f) (c .put-verdict .ensures i)) ∙ ap (λ (a : FrameAnswer). answered a (at-exit f) (old f)) (sym (k .answer2 .given .1)) ∙ told f
 
 pub pitch-frame-spec : {M : Type 1} → statement M
 pitch-frame-spec = tie.close (tie.spec silk-pitch-analysis-core-requires enum-known-answer enum-known-answer-2 put-verdict-requires same-length returns same-length-2 returns-2)

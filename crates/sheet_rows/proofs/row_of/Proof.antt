@@ -10,7 +10,7 @@ use Rattle.zint.specs.ReadLaws.{r-var}
 use Rattle.silk_tables.specs.Rebuild.{carried}
 use Rattle.pitch_settings.specs.SettingsLaws.{held-settings}
 use Rattle.sheet_rows.specs.declared.RowRead.the-variants.{Held}
-use Rattle.sheet_rows.specs.Rows.{voiced-row, quiet-row}
+use Rattle.pitch_table.specs.Row.{voiced-row, unpitched-row}
 use Rattle.sheet_rows.specs.RowsLaws.{row-voiced, row-not-carried, row-unvoiced, row-zero-divisor, row-none, row-answer}
 use Rattle.sheet_rows.proofs.row_of.Statement.{statement}
 use Rattle.sheet_rows.proofs.row_of.Tie as tie
@@ -47,25 +47,25 @@ returns-2 c =
     row-answer (a .s) (a .verdict) (a .index) (a .contour) (a .correlation)
     (sym (row-not-carried (a .s) (a .index) (a .contour) (a .correlation) (verdict-is s 0 (omega arith) (c .before .before .if1 .taken)) (sym (asked (c .before)) ∙ c .if2 .left)))
 
-quiet-row-requires : tie.Need-quiet-row-requires
-quiet-row-requires c κs = tt
+unpitched-row-requires : tie.Need-unpitched-row-requires
+unpitched-row-requires c κs = tt
 
 returns-3 : tie.Need-returns-3
 returns-3 c =
     let s = c .before .before .before in
     let a = s .args in
     row-answer (a .s) (a .verdict) (a .index) (a .contour) (a .correlation)
-    (ap Held (c .quiet-row .ensures ∙ ap quiet-row (r-var (s .fits .verdict) .val)) ∙ sym (row-unvoiced (a .s) (a .index) (a .contour) (a .correlation) (verdict-is s 1 (omega arith) (c .before .if3 .taken))))
+    (ap Held (c .unpitched-row .ensures ∙ ap unpitched-row (r-var (s .fits .verdict) .val)) ∙ sym (row-unvoiced (a .s) (a .index) (a .contour) (a .correlation) (verdict-is s 1 (omega arith) (c .before .if3 .taken))))
 
-quiet-row-requires-2 : tie.Need-quiet-row-requires-2
-quiet-row-requires-2 c κs = tt
+unpitched-row-requires-2 : tie.Need-unpitched-row-requires-2
+unpitched-row-requires-2 c κs = tt
 
 returns-4 : tie.Need-returns-4
 returns-4 c =
     let s = c .before .before .before .before in
     let a = s .args in
     row-answer (a .s) (a .verdict) (a .index) (a .contour) (a .correlation)
-    (ap Held (c .quiet-row2 .ensures ∙ ap quiet-row (r-var (s .fits .verdict) .val)) ∙ sym (row-zero-divisor (a .s) (a .index) (a .contour) (a .correlation) (verdict-is s 2 (omega arith) (c .before .if4 .taken))))
+    (ap Held (c .unpitched-row2 .ensures ∙ ap unpitched-row (r-var (s .fits .verdict) .val)) ∙ sym (row-zero-divisor (a .s) (a .index) (a .contour) (a .correlation) (verdict-is s 2 (omega arith) (c .before .if4 .taken))))
 
 returns-5 : tie.Need-returns-5
 returns-5 c =
@@ -78,4 +78,4 @@ returns-5 c =
 pub row-of-spec : {M : Type 1} → statement M
 row-of-spec =
     tie.close
-    (tie.spec pair-carried-requires voiced-row-requires returns returns-2 quiet-row-requires returns-3 quiet-row-requires-2 returns-4 returns-5)
+    (tie.spec pair-carried-requires voiced-row-requires returns returns-2 unpitched-row-requires returns-3 unpitched-row-requires-2 returns-4 returns-5)

@@ -4,7 +4,8 @@ use Prim.Native.Nat.{ℕ, _+_, _≤_, _<_}
 use native.Mathlib.Omega.{arith}
 use lib.ListN.{length, length-append}
 use Rattle.pitch_table.specs.Row.{row-at}
-use Rattle.sheet_rows.specs.RowsLaws.{Small, holds-small}
+use Rattle.sheet_rows.specs.Rows.{FieldsFit}
+use Rattle.sheet_rows.specs.RowsLaws.{holds-fit}
 use Rattle.sheet_sections.specs.declared.Section.the-variants.{Verdicts, Pairs, Correlations}
 use Rattle.sheet_sections.specs.Sheet.{entries, section, sheet, rows-of}
 use Rattle.lists.specs.PutLaws.{put-then}
@@ -19,8 +20,8 @@ room : (c : tie.Start)
 unfolding sheet
 room c = let rs = rows-of (c .args .table .now) (c .args .frames) in simp (length-append, settings-length (c .args .s)) at (c .pre .5)
 
-rows-small : (c : tie.Start) (i : ℕ) → i < c .args .frames → Small (row-at (c .args .table .now) i)
-rows-small c i h = holds-small (c .args .s) (row-at (c .args .table .now) i) (c .pre .3 i h)
+rows-small : (c : tie.Start) (i : ℕ) → i < c .args .frames → FieldsFit (row-at (c .args .table .now) i)
+rows-small c i h = holds-fit (c .args .s) (row-at (c .args .table .now) i) (c .pre .3 i h)
 
 put-settings-requires : tie.Need-put-settings-requires
 put-settings-requires c κs = (c .before .before .pre .0, omega (arith, room (c .before .before)))

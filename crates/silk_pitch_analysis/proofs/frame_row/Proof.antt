@@ -9,7 +9,8 @@ use Rattle.pitch_settings.specs.Settings.{frame-length}
 use Rattle.pitch_table.specs.declared.Row.{Row}
 use Rattle.silk_pitch_analysis.specs.declared.RowAnswer.the-variants.{Analysed, Refused}
 use Rattle.silk_pitch_analysis.specs.Frame.{verdict-of, row-from, frame-row, frame-no, row-answer}
-use Rattle.silk_pitch_analysis.specs.FrameLaws.{Carried, Taken, taken, row-taken, row-answer-told}
+use Rattle.silk_pitch_analysis.specs.Steps.{VerdictCarried}
+use Rattle.silk_pitch_analysis.specs.FrameLaws.{Taken, taken, row-taken, row-answer-told}
 use Rattle.silk_pitch_analysis.specs.VerdictLaws.{first-carried}
 use Rattle.silk_pitch_analysis.proofs.frame_row.Statement.{statement}
 use Rattle.silk_pitch_analysis.proofs.frame_row.Tie as tie
@@ -43,7 +44,7 @@ verdict-row-requires : tie.Need-verdict-row-requires
 verdict-row-requires c κs =
     let s = c .before .before .before in
     let t = fine (c .before) in
-    (t .settings, subst (Carried (s .args .s)) (sym (verdict c)) (first-carried (s .args .s) (s .args .x .now) (t .settings) (t .samples) (s .args .prev-lag) (s .args .prev-corr)))
+    (t .settings, subst (VerdictCarried (s .args .s)) (sym (verdict c)) (first-carried (s .args .s) (s .args .x .now) (t .settings) (t .samples) (s .args .prev-lag) (s .args .prev-corr)))
 
 returns-2 : tie.Need-returns-2
 unfolding frame-row

@@ -15,7 +15,7 @@ use Rattle.stage3.specs.Stage3.{stage3}
 use Rattle.stage3.specs.declared.Found.{Found}
 use Rattle.stage3.specs.declared.Found.the-variants.{Pair, ZeroDivisor}
 use Rattle.silk_pitch_analysis.specs.Frame.{scaled-lag, from-pair, last-stage}
-use Rattle.silk_pitch_analysis.specs.FrameLaws.{handed, pair-lag}
+use Rattle.silk_pitch_analysis.specs.FrameLaws.{handed, stage3-range}
 use Rattle.silk_pitch_analysis.proofs.last_stage.Statement.{statement}
 use Rattle.silk_pitch_analysis.proofs.last_stage.Tie as tie
 
@@ -71,7 +71,7 @@ voiced-requires-2 c κs =
     let s = d .before .before in
     let g = d .before .if1 .left in
     let h = handed (s .args .s) (s .args .w .now) (s .pre .0) (s .pre .1 .0) (s .args .lag) (s .args .contour) (s .pre .1 .1) g in
-    let p = pair-lag (s .args .s) (s .args .w .now) (s .pre .0) (s .pre .1 .0) (s .args .lag) (s .args .contour) (s .pre .1 .1) g _ _ (sym (found d) ∙ f .found .given .1) in
+    let p = stage3-range (s .args .s) (s .args .w .now) (s .pre .0) (s .pre .1 .0) (s .args .lag) (s .args .contour) (s .pre .1 .1) g _ _ (sym (found d) ∙ f .found .given .1) in
     let u = in-use-bounds (h .settings) in
     (h .rate-high, (p .1 .0, omega (arith, p .1 .1)))
 

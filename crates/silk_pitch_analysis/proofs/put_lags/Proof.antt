@@ -25,7 +25,7 @@ loop-holds : tie.Need-loop-holds Inv-loop μ-loop
 loop-holds c = (omega arith, (c .pre .1 .1, filled-none (lag-of (c .args .s) (c .args .v)) (c .args .out .now)))
 
 verdict-lag-requires : tie.Need-verdict-lag-requires Inv-loop μ-loop
-verdict-lag-requires c κs = (c .before .before .pre .0, (c .before .before .pre .1 .0, c .loop-test .taken))
+verdict-lag-requires c κs = (c .before .before .pre .0, c .before .before .pre .1 .0)
 
 mul-lag : tie.Need-mul-lag Inv-loop μ-loop
 mul-lag c = omega (arith, accepted-settings _ (c .before .before .before .pre .0))

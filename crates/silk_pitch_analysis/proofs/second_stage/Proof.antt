@@ -12,7 +12,7 @@ use Rattle.stage2.specs.MeaningLaws.{winner-range}
 use Rattle.stage2.specs.declared.Stage2.{Stage2}
 use Rattle.stage2.specs.declared.Stage2.the-variants.{Winner}
 use Rattle.silk_pitch_analysis.specs.Frame.{from-winner, last-stage}
-use Rattle.silk_pitch_analysis.specs.FrameLaws.{Won}
+use Rattle.silk_pitch_analysis.specs.Steps.{WinnerRange}
 use Rattle.silk_pitch_analysis.proofs.second_stage.Statement.{statement}
 use Rattle.silk_pitch_analysis.proofs.second_stage.Tie as tie
 

@@ -9,9 +9,10 @@ use lib.ListN.{length, take}
 use Rattle.zint.specs.ReadLaws.{r-var}
 use Rattle.pitch_settings.specs.Settings.{frame-length}
 use Rattle.silk_pitch_analysis.specs.declared.Verdict.{Verdict}
-use Rattle.silk_pitch_analysis.specs.declared.Answer.the-variants.{Refused, Analysed}
+use Rattle.silk_pitch_analysis.specs.declared.FrameAnswer.the-variants.{Refused, Analysed}
 use Rattle.silk_pitch_analysis.specs.Frame.{verdict-of, frame-no, frame-outcome, analysed, frame-call}
-use Rattle.silk_pitch_analysis.specs.FrameLaws.{Carried, Taken, taken, answer-told}
+use Rattle.silk_pitch_analysis.specs.Steps.{VerdictCarried}
+use Rattle.silk_pitch_analysis.specs.FrameLaws.{Taken, taken, answer-told}
 use Rattle.silk_pitch_analysis.specs.VerdictLaws.{first-carried}
 use Rattle.silk_pitch_analysis.proofs.silk_pitch_analysis_core.Statement.{statement}
 use Rattle.silk_pitch_analysis.proofs.silk_pitch_analysis_core.Tie as tie
@@ -53,7 +54,7 @@ put-lags-requires c κs =
     let a = c .before in
     let s = a .before .before .before in
     let t = fine (a .before) in
-    (t .settings, (subst (Carried (s .args .s)) (sym (verdict a)) (first-carried (s .args .s) (s .args .frame .now) (t .settings) (t .samples) (s .args .prev-lag) (s .args .prev-corr)), t .places))
+    (t .settings, (subst (VerdictCarried (s .args .s)) (sym (verdict a)) (first-carried (s .args .s) (s .args .frame .now) (t .settings) (t .samples) (s .args .prev-lag) (s .args .prev-corr)), t .places))
 
 same-length : tie.Need-same-length
 same-length c = search needs

@@ -1,4 +1,4 @@
--- `sheet_rows::lag_place` meets its contract.
+-- `pitch_table::pair_lag` meets its contract.
 use mathlib.Core.Path.{sym, ap₂, _∙_}
 use native.Mathlib.Omega.{arith}
 use lib.IntN.{ℤ, natAbs}
@@ -7,9 +7,9 @@ use Rattle.zint.specs.BoundLaws.{fits-abs}
 use Rattle.zint.specs.ReadLaws.{r-var, r-got, as-unsigned}
 use Rattle.silk_tables.specs.Rebuild.{rebuilt}
 use Rattle.silk_tables.specs.CarriedLaws.{carried-means, contour-abs, coded}
-use Rattle.sheet_rows.specs.RowsLaws.{lag-in, lag-past}
-use Rattle.sheet_rows.proofs.lag_place.Statement.{statement}
-use Rattle.sheet_rows.proofs.lag_place.Tie as tie
+use Rattle.pitch_table.specs.RowLaws.{pair-lag-in, pair-lag-past}
+use Rattle.pitch_table.proofs.pair_lag.Statement.{statement}
+use Rattle.pitch_table.proofs.pair_lag.Tie as tie
 
 cast-lag-of : tie.Need-cast-lag-of
 cast-lag-of c =
@@ -28,10 +28,10 @@ returns c =
     let a = s .args in
     r-got w32 (c .lag-of .ok) (c .lag-of .ensures) .val
     ∙ ap₂ (λ (x y : ℤ). rebuilt (a .s .rate) (a .s .nb) x (natAbs y) (a .k)) (r-var (s .fits .index) .val) (r-var (s .fits .contour) .val)
-    ∙ sym (lag-in (a .s) (a .index) (a .contour) (a .k) (c .before .if1 .taken))
+    ∙ sym (pair-lag-in (a .s) (a .index) (a .contour) (a .k) (c .before .if1 .taken))
 
 returns-2 : tie.Need-returns-2
-returns-2 c = let a = c .before .before .args in sym (lag-past (a .s) (a .index) (a .contour) (a .k) (c .if1 .left))
+returns-2 c = let a = c .before .before .args in sym (pair-lag-past (a .s) (a .index) (a .contour) (a .k) (c .if1 .left))
 
-pub lag-place-spec : {M : Type 1} → statement M
-lag-place-spec = tie.close (tie.spec cast-lag-of lag-of-requires returns returns-2)
+pub pair-lag-spec : {M : Type 1} → statement M
+pair-lag-spec = tie.close (tie.spec cast-lag-of lag-of-requires returns returns-2)
