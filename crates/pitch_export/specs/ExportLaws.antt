@@ -13,14 +13,14 @@ use Rattle.silk_pitch_analysis.specs.declared.Verdict.{Verdict}
 use Rattle.silk_pitch_analysis.specs.declared.FrameAnswer.{FrameAnswer}
 use Rattle.silk_pitch_analysis.specs.declared.FrameAnswer.the-variants.{Refused}
 use Rattle.silk_pitch_analysis.specs.Frame.{FrameOutcome, frame-outcome, analysed, verdict-of, frame-no, frame-call}
-use Rattle.pitch_export.specs.Export.{Exported, answered, export-call}
+use Rattle.pitch_export.specs.Export.{Exported, export-answer, export-call}
 
-pub export-is : (s : Settings) (x l : List ℤ) (prev corr : ℤ) (old : List ℤ) (a : FrameAnswer) (m : List ℤ) → frame-outcome a m ≡ frame-call s x l prev corr → answered a m old ≡ export-call s x l prev corr old
+pub export-is : (s : Settings) (x l : List ℤ) (prev corr : ℤ) (old : List ℤ) (a : FrameAnswer) (m : List ℤ) → frame-outcome a m ≡ frame-call s x l prev corr → export-answer a m old ≡ export-call s x l prev corr old
 unfolding export-call
-export-is s x l prev corr old a m e = ap (λ (o : FrameOutcome). answered (o .answer) (o .lags) old) e
+export-is s x l prev corr old a m e = ap (λ (o : FrameOutcome). export-answer (o .answer) (o .lags) old) e
 
 number-by : (s : Settings) (v : Verdict) (l : List ℤ) (old : List ℤ) (k : ℕ) (b : Bool) → eqb k 0 ≡ b
-    → answered (cond b (analysed s v l) (frame-outcome (Refused k) l) .answer) (cond b (analysed s v l) (frame-outcome (Refused k) l) .lags) old .number ≡ k
+    → export-answer (cond b (analysed s v l) (frame-outcome (Refused k) l) .answer) (cond b (analysed s v l) (frame-outcome (Refused k) l) .lags) old .number ≡ k
 unfolding analysed
 number-by s v l old k true e = sym (eqb-true k 0 e)
 number-by s v l old k false e = refl

@@ -1,13 +1,13 @@
 // The frame call for programs in C and Rust, on numbers and slices.
 ghost use mathlib.Core.Path.{_≡_};
 ghost use Rattle.silk_pitch_analysis.specs.Frame.{verdict-numbers};
-ghost use Rattle.pitch_export.specs.Export.{settings, numbers, exported, export-call};
+ghost use Rattle.pitch_export.specs.Export.{export-settings, lent-numbers, exported, export-call};
 use pitch_settings::Settings;
 use silk_pitch_analysis::FrameAnswer;
 use silk_pitch_analysis::Verdict;
 use silk_pitch_analysis::silk_pitch_analysis_core;
 
-// The four numbers of a verdict.
+// Writes the four numbers of a verdict.
 fn put_verdict(
     v: Verdict,
     verdict: &mut i32,
@@ -15,7 +15,7 @@ fn put_verdict(
     contour: &mut i32,
     correlation: &mut i32,
 )
-    ensures { λ _. ⌜ numbers (now (verdict .exit)) (now (index .exit)) (now (contour .exit)) (now (correlation .exit)) ≡ verdict-numbers v ⌝ }
+    ensures { λ _. ⌜ lent-numbers (now (verdict .exit)) (now (index .exit)) (now (contour .exit)) (now (correlation .exit)) ≡ verdict-numbers v ⌝ }
 {
     *index = 0;
     *contour = 0;
@@ -40,7 +40,7 @@ fn put_verdict(
     }
 }
 
-// The frame call: 0, or the number of the refusal (1 to 5), which changes nothing that is lent.
+// The frame call for C and Rust: 0, with the first nb lag places and the four numbers of the verdict written; or the number of the refusal (1 to 5), with nothing written.
 #[no_mangle]
 pub extern "C" fn pitch_frame(
     frame: &[i16],
@@ -57,7 +57,7 @@ pub extern "C" fn pitch_frame(
     contour: &mut i32,
     correlation: &mut i32,
 ) -> usize
-    ensures { λ r. ⌜ exported r (now («pitch_out» .exit)) (numbers (now (verdict .exit)) (now (index .exit)) (now (contour .exit)) (now (correlation .exit))) ≡ export-call (settings rate nb complexity thres1 thres2) (now (frame .entry)) (now («pitch_out» .entry)) «prev_lag» «prev_corr» (numbers (now (verdict .entry)) (now (index .entry)) (now (contour .entry)) (now (correlation .entry))) ⌝ }
+    ensures { λ r. ⌜ exported r (now («pitch_out» .exit)) (lent-numbers (now (verdict .exit)) (now (index .exit)) (now (contour .exit)) (now (correlation .exit))) ≡ export-call (export-settings rate nb complexity thres1 thres2) (now (frame .entry)) (now («pitch_out» .entry)) «prev_lag» «prev_corr» (lent-numbers (now (verdict .entry)) (now (index .entry)) (now (contour .entry)) (now (correlation .entry))) ⌝ }
 {
     let s = Settings {
         rate,

@@ -5,18 +5,9 @@ use mir.Syntax.{w32}
 use mir.Val.{toZ, ofZ}
 use Rattle.zint.specs.RuleLaws.{zneeds}
 use Rattle.silk_pitch_analysis.specs.Frame.{verdict-numbers}
-use Rattle.pitch_export.specs.Export.{numbers}
+use Rattle.pitch_export.specs.Export.{lent-numbers}
 use Rattle.pitch_export.proofs.put_verdict.Statement.{statement}
 use Rattle.pitch_export.proofs.put_verdict.Tie as tie
-
-enum-known-v : tie.Need-enum-known-v
-enum-known-v c = search zneeds
-
-enum-told : tie.Need-enum-told
-enum-told c = search zneeds
-
-enum-told-2 : tie.Need-enum-told-2
-enum-told-2 c = search zneeds
 
 index-is : (c : tie.After-known-told) → toZ w32 (ofZ w32 (c .before .v .given .0 .0)) ≡ c .before .v .given .0 .0
 index-is c = search zneeds
@@ -28,7 +19,7 @@ correlation-is : (c : tie.After-known-told) → toZ w32 (ofZ w32 (c .before .v .
 correlation-is c = search zneeds
 
 returns : tie.Need-returns
-returns c = (λ i. numbers (pos 0) (index-is c i) (contour-is c i) (correlation-is c i)) ∙ ap verdict-numbers (sym (c .before .v .given .1))
+returns c = (λ i. lent-numbers (pos 0) (index-is c i) (contour-is c i) (correlation-is c i)) ∙ ap verdict-numbers (sym (c .before .v .given .1))
 
 returns-2 : tie.Need-returns-2
 returns-2 c = ap verdict-numbers (sym (c .enum-told .given .1))
@@ -37,4 +28,4 @@ returns-3 : tie.Need-returns-3
 returns-3 c = ap verdict-numbers (sym (c .enum-told2 .given .1))
 
 pub put-verdict-spec : {M : Type 1} → statement M
-put-verdict-spec = tie.close (tie.spec enum-known-v enum-told enum-told-2 returns returns-2 returns-3)
+put-verdict-spec = tie.close (tie.spec (λ c. search zneeds) (λ c. search zneeds) (λ c. search zneeds) returns returns-2 returns-3)

@@ -16,12 +16,6 @@ known c =
 row-of-requires : tie.Need-row-of-requires
 row-of-requires c κs = c .before .before .before .before .pre
 
-enum-known-held : tie.Need-enum-known-held
-enum-known-held c = search needs
-
-enum-told : tie.Need-enum-told
-enum-told c = search needs
-
 returns : tie.Need-returns
 unfolding row-holds
 returns c = rw (sym (known (c .before .before)) ∙ c .enum-told .given .1)
@@ -34,6 +28,4 @@ unfolding row-holds
 returns-2 c = rw (sym (known (c .before .before .before .before)) ∙ c .before .before .held .given .1) (c .same-row .ensures)
 
 pub row-holds-spec : {M : Type 1} → statement M
-row-holds-spec =
-    tie.close
-    (tie.spec row-of-requires enum-known-held enum-told returns same-row-requires returns-2)
+row-holds-spec = tie.close (tie.spec row-of-requires (λ c. search needs) (λ c. search needs) returns same-row-requires returns-2)

@@ -78,4 +78,5 @@ returns-5 c =
 pub row-of-spec : {M : Type 1} → statement M
 row-of-spec =
     tie.close
-    (tie.spec pair-carried-requires voiced-row-requires returns returns-2 unpitched-row-requires returns-3 unpitched-row-requires-2 returns-4 returns-5)
+    (tie.spec pair-carried-requires voiced-row-requires returns returns-2 unpitched-row-requires returns-3 unpitched-row-requires-2 returns-4
+    returns-5)

@@ -72,4 +72,7 @@ returns c =
     ∙ (λ i. staged (s .args .s) (working d i) (r-var (s .fits .prev-lag) .val i) (r-var (s .fits .prev-corr) .val i))
 
 pub analyse-spec : {M : Type 1} → statement M
-analyse-spec = tie.close (tie.spec frame-length-requires frame-shift-requires slice-aggregate-scale-into scale-into-requires slice-aggregate-working-frame working-frame-requires analyse-working-requires returns)
+analyse-spec =
+    tie.close
+    (tie.spec frame-length-requires frame-shift-requires slice-aggregate-scale-into scale-into-requires slice-aggregate-working-frame
+    working-frame-requires analyse-working-requires returns)

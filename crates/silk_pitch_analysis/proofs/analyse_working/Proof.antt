@@ -57,27 +57,6 @@ module _ (g : tie.After-frame-4khz) where
   f-room : n4 ≤ length (g .frame-4khz .last .1 .0)
   f-room = omega (arith, g .frame-4khz .kept .1 .0, accepted-settings _ (start eighth .pre .0) .nb-high)
 
-mul-n8 : tie.Need-mul-n8
-mul-n8 c = omega (arith, accepted-settings _ (c .pre .0) .nb-high)
-
-add-n8 : tie.Need-add-n8
-add-n8 c = omega (arith, accepted-settings _ (c .pre .0) .nb-high)
-
-mul-n8-2 : tie.Need-mul-n8-2
-mul-n8-2 c = omega (arith, accepted-settings _ (c .pre .0) .nb-high)
-
-mul-n4 : tie.Need-mul-n4
-mul-n4 c = omega (arith, accepted-settings _ (c .pre .0) .nb-high)
-
-add-n4 : tie.Need-add-n4
-add-n4 c = omega (arith, accepted-settings _ (c .pre .0) .nb-high)
-
-mul-n4-2 : tie.Need-mul-n4-2
-mul-n4-2 c = omega (arith, accepted-settings _ (c .pre .0) .nb-high)
-
-slice-aggregate-frame-8khz : tie.Need-slice-aggregate-frame-8khz
-slice-aggregate-frame-8khz c = refl
-
 frame-8khz-requires : tie.Need-frame-8khz-requires
 frame-8khz-requires c κs =
     let s = c .before in
@@ -88,9 +67,6 @@ array-share-prefix-buf-8khz c = e-room (c .before)
 
 slice-aggregate-frame-4khz : tie.Need-slice-aggregate-frame-4khz
 slice-aggregate-frame-4khz c = let d = c .before .before in sym (ap length (e-front d) ∙ e-length d)
-
-slice-aggregate-frame-4khz-2 : tie.Need-slice-aggregate-frame-4khz-2
-slice-aggregate-frame-4khz-2 c = refl
 
 frame-4khz-requires : tie.Need-frame-4khz-requires
 frame-4khz-requires c κs = let d = c .before .before .before in omega (arith, ap length (e-front d) ∙ e-length d, accepted-settings _ (start d .pre .0) .nb-high)
@@ -123,4 +99,10 @@ returns c =
     c .stages .ensures ∙ (λ i. run (e-front d i) (f-front g i) (r-var (start d .fits .prev-lag) .val i) (r-var (start d .fits .prev-corr) .val i))
 
 pub analyse-working-spec : {M : Type 1} → statement M
-analyse-working-spec = tie.close (tie.spec mul-n8 add-n8 mul-n8-2 mul-n4 add-n4 mul-n4-2 slice-aggregate-frame-8khz frame-8khz-requires array-share-prefix-buf-8khz slice-aggregate-frame-4khz slice-aggregate-frame-4khz-2 frame-4khz-requires array-share-prefix-buf-8khz-2 slice-aggregate-stages array-share-prefix-buf-4khz slice-aggregate-stages-2 stages-requires returns)
+analyse-working-spec =
+    tie.close
+    (tie.spec (λ c. omega (arith, accepted-settings _ (c .pre .0) .nb-high)) (λ c. omega (arith, accepted-settings _ (c .pre .0) .nb-high))
+    (λ c. omega (arith, accepted-settings _ (c .pre .0) .nb-high)) (λ c. omega (arith, accepted-settings _ (c .pre .0) .nb-high))
+    (λ c. omega (arith, accepted-settings _ (c .pre .0) .nb-high)) (λ c. omega (arith, accepted-settings _ (c .pre .0) .nb-high)) (λ c. refl)
+    frame-8khz-requires array-share-prefix-buf-8khz slice-aggregate-frame-4khz (λ c. refl) frame-4khz-requires array-share-prefix-buf-8khz-2
+    slice-aggregate-stages array-share-prefix-buf-4khz slice-aggregate-stages-2 stages-requires returns)

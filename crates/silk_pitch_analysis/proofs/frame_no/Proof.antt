@@ -1,16 +1,15 @@
 -- `silk_pitch_analysis::frame_no` meets its contract.
 use mathlib.Core.Path.{_≡_, sym, ap, _∙_}
+use mathlib.Core.Bool.{Bool, cond}
 use borrow.Author.Needs.{needs}
 use borrow.Author.Tests.{eq-eqb, ne-eqb, lt-ltb, le-ltb}
 use Prim.Native.Nat.{_<_, _≤_}
 use native.Mathlib.Omega.{arith}
+use lib.Dec.{ltb}
 use Rattle.pitch_settings.specs.Settings.{settings-no, frame-length}
 use Rattle.silk_pitch_analysis.specs.Frame.{frame-no}
 use Rattle.silk_pitch_analysis.proofs.frame_no.Statement.{statement}
 use Rattle.silk_pitch_analysis.proofs.frame_no.Tie as tie
-
-settings-no-requires : tie.Need-settings-no-requires
-settings-no-requires c κs = search needs
 
 -- the settings are accepted
 fine : (c : tie.Else1) → settings-no (c .before .before .args .s) ≡ 0
@@ -32,21 +31,19 @@ returns-2 c =
     let l : a .n < frame-length (a .s) = omega (arith, c .before .frame-length .ensures, c .if2 .taken) in
     rw (eq-eqb _ 0 (fine (c .before .before)), lt-ltb (a .n) (frame-length (a .s)) l)
 
-returns-3 : tie.Need-returns-3
+-- past the test of the samples: the refusal is that of the lag places
+by-places : (c : tie.Else2) → let a = c .before .before .before .before .args in frame-no (a .s) (a .n) (a .m) ≡ cond (ltb (a .m) (a .s .nb)) 5 0
 unfolding frame-no
-returns-3 c =
-    let d = c .before in
-    let a = d .before .before .before .before .args in
-    let l : frame-length (a .s) ≤ a .n = omega (arith, d .before .frame-length .ensures, d .if2 .left) in
-    rw (eq-eqb _ 0 (fine (d .before .before)), le-ltb (a .n) (frame-length (a .s)) l, lt-ltb (a .m) (a .s .nb) (c .if3 .taken))
+by-places c =
+    let a = c .before .before .before .before .args in
+    let l : frame-length (a .s) ≤ a .n = omega (arith, c .before .frame-length .ensures, c .if2 .left) in
+    rw (eq-eqb _ 0 (fine (c .before .before)), le-ltb (a .n) (frame-length (a .s)) l)
+
+returns-3 : tie.Need-returns-3
+returns-3 c = let a = c .before .before .before .before .before .args in sym (by-places (c .before) ∙ ap (λ (t : Bool). cond t 5 0) (lt-ltb (a .m) (a .s .nb) (c .if3 .taken)))
 
 returns-4 : tie.Need-returns-4
-unfolding frame-no
-returns-4 c =
-    let d = c .before in
-    let a = d .before .before .before .before .args in
-    let l : frame-length (a .s) ≤ a .n = omega (arith, d .before .frame-length .ensures, d .if2 .left) in
-    rw (eq-eqb _ 0 (fine (d .before .before)), le-ltb (a .n) (frame-length (a .s)) l, le-ltb (a .m) (a .s .nb) (c .if3 .left))
+returns-4 c = let a = c .before .before .before .before .before .args in sym (by-places (c .before) ∙ ap (λ (t : Bool). cond t 5 0) (le-ltb (a .m) (a .s .nb) (c .if3 .left)))
 
 pub frame-no-spec : {M : Type 1} → statement M
-frame-no-spec = tie.close (tie.spec settings-no-requires returns frame-length-requires returns-2 returns-3 returns-4)
+frame-no-spec = tie.close (tie.spec (λ c κs. search needs) returns frame-length-requires returns-2 returns-3 returns-4)

@@ -27,9 +27,6 @@ verdict c =
     c .analyse .ensures
     ∙ (λ i. verdict-of (s .args .s) (take (frame-length (s .args .s)) (s .args .x .now)) (r-var (s .fits .prev-lag) .val i) (r-var (s .fits .prev-corr) .val i))
 
-frame-no-requires : tie.Need-frame-no-requires
-frame-no-requires c κs = search needs
-
 returns : tie.Need-returns
 unfolding row-answer
 returns c =
@@ -57,4 +54,4 @@ returns-2 c =
     ∙ sym (row-taken (s .args .s) (s .args .x .now) (s .args .prev-lag) (s .args .prev-corr) (t .settings) (t .samples)))
 
 pub frame-row-spec : {M : Type 1} → statement M
-frame-row-spec = tie.close (tie.spec frame-no-requires returns analyse-requires verdict-row-requires returns-2)
+frame-row-spec = tie.close (tie.spec (λ c κs. search needs) returns analyse-requires verdict-row-requires returns-2)

@@ -55,12 +55,6 @@ mul-search-stage3 c =
 search-stage3-requires : tie.Need-search-stage3-requires
 search-stage3-requires c κs = let s = c .before in handed (s .args .s) (s .args .w .now) (s .pre .0) (s .pre .1 .0) (s .args .lag) (s .args .contour) (s .pre .1 .1) (c .if1 .left)
 
-enum-known-found : tie.Need-enum-known-found
-enum-known-found c = search zneeds
-
-enum-told : tie.Need-enum-told
-enum-told c = search zneeds
-
 returns-2 : tie.Need-returns-2
 returns-2 c = sym (last (c .before .before) ZeroDivisor (c .enum-told .given .1))
 
@@ -85,4 +79,7 @@ returns-3 c =
     ∙ sym (last d (Pair (f .found .given .0 .0) (f .found .given .0 .1 .0)) (f .found .given .1))
 
 pub last-stage-spec : {M : Type 1} → statement M
-last-stage-spec = tie.close (tie.spec voiced-requires returns mul-search-stage3 search-stage3-requires enum-known-found enum-told returns-2 voiced-requires-2 returns-3)
+last-stage-spec =
+    tie.close
+    (tie.spec voiced-requires returns mul-search-stage3 search-stage3-requires (λ c. search zneeds) (λ c. search zneeds) returns-2 voiced-requires-2
+    returns-3)

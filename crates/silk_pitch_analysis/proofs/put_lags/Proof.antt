@@ -36,12 +36,6 @@ slice-set-from-lag c =
     let l = c .before .before .loop in
     omega (arith, ap length (l .inv .1 .1) ∙ length-filled (lag-of (s .args .s) (s .args .v)) (l .k) (s .args .out .now) (omega arith))
 
-add-k : tie.Need-add-k Inv-loop μ-loop
-add-k c = search zneeds
-
-loop-less : tie.Need-loop-less Inv-loop μ-loop
-loop-less c = search zneeds
-
 loop-again : tie.Need-loop-again Inv-loop μ-loop
 loop-again c =
     let s = c .before .before .before in
@@ -68,4 +62,7 @@ returns c =
     l .inv .1 .1 ∙ ap (λ (m : ℕ). filled (lag-of (s .args .s) (s .args .v)) m (s .args .out .now)) e
 
 pub put-lags-spec : {M : Type 1} → statement M
-put-lags-spec = tie.close (tie.spec Inv-loop μ-loop loop-holds verdict-lag-requires mul-lag slice-set-from-lag add-k loop-less loop-again same-length returns)
+put-lags-spec =
+    tie.close
+    (tie.spec Inv-loop μ-loop loop-holds verdict-lag-requires mul-lag slice-set-from-lag (λ c. search zneeds) (λ c. search zneeds) loop-again
+    same-length returns)

@@ -35,9 +35,6 @@ search-stage2-requires c κs =
     let a = accepted-settings _ (p .0) in
     record { rate = a .rate; subframes = a .subframes; complexity = omega (arith, a .complexity); long = omega (arith, p .1 .1 .0); lags = p .1 .1 .1 }
 
-enum-known-answer : tie.Need-enum-known-answer
-enum-known-answer c = search zneeds
-
 last-stage-requires : tie.Need-last-stage-requires
 last-stage-requires c κs =
     let v = c .before in
@@ -45,12 +42,6 @@ last-stage-requires c κs =
     let s = d .before .before .before in
     let r = winner-range (s .args .e .now) (s .args .kept .now) (s .args .s .rate) (s .args .s .nb) (s .args .s .complexity) (s .args .s .thres2) (s .args .prev-lag) (s .args .prev-corr) _ _ _ (sym (answer d) ∙ v .answer .given .1) in
     (s .pre .0, (s .pre .1 .0, record { low = r .0; high = r .1 .0; tried = r .1 .1 }))
-
-enum-told : tie.Need-enum-told
-enum-told c = search zneeds
-
-enum-told-2 : tie.Need-enum-told-2
-enum-told-2 c = search zneeds
 
 correlation-is : (c : tie.After-known-told) → toZ w32 (ofZ w32 (c .before .answer .given .0 .1 .1 .0)) ≡ c .before .answer .given .0 .1 .1 .0
 correlation-is c = search zneeds
@@ -78,4 +69,6 @@ returns-3 c =
     ap (from-winner (s .args .s) (s .args .w .now)) (sym (c .enum-told2 .given .1) ∙ answer d)
 
 pub second-stage-spec : {M : Type 1} → statement M
-second-stage-spec = tie.close (tie.spec search-stage2-requires enum-known-answer last-stage-requires enum-told enum-told-2 returns returns-2 returns-3)
+second-stage-spec =
+    tie.close
+    (tie.spec search-stage2-requires (λ c. search zneeds) last-stage-requires (λ c. search zneeds) (λ c. search zneeds) returns returns-2 returns-3)

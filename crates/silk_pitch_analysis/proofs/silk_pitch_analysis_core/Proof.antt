@@ -29,9 +29,6 @@ verdict c =
     c .analyse .ensures
     ∙ (λ i. verdict-of (s .args .s) (take (frame-length (s .args .s)) (s .args .frame .now)) (r-var (s .fits .prev-lag) .val i) (r-var (s .fits .prev-corr) .val i))
 
-frame-no-requires : tie.Need-frame-no-requires
-frame-no-requires c κs = search needs
-
 -- a refusal, with the lag places as they were
 refused : (c : tie.Then1)
     → frame-outcome (Refused (c .before .frame-no .result)) (c .before .before .args .pitch-out .now)
@@ -56,9 +53,6 @@ put-lags-requires c κs =
     let t = fine (a .before) in
     (t .settings, (subst (VerdictCarried (s .args .s)) (sym (verdict a)) (first-carried (s .args .s) (s .args .frame .now) (t .settings) (t .samples) (s .args .prev-lag) (s .args .prev-corr)), t .places))
 
-same-length : tie.Need-same-length
-same-length c = search needs
-
 returns-2 : tie.Need-returns-2
 unfolding frame-call analysed
 returns-2 c =
@@ -71,4 +65,4 @@ returns-2 c =
     ∙ ap (λ (v : Verdict). analysed (s .args .s) v (s .args .pitch-out .now)) (verdict a)))
 
 pub silk-pitch-analysis-core-spec : {M : Type 1} → statement M
-silk-pitch-analysis-core-spec = tie.close (tie.spec frame-no-requires returns analyse-requires put-lags-requires same-length returns-2)
+silk-pitch-analysis-core-spec = tie.close (tie.spec (λ c κs. search needs) returns analyse-requires put-lags-requires (λ c. search needs) returns-2)

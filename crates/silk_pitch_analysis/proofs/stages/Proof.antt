@@ -67,15 +67,6 @@ search-stage1-requires c κs =
     let a = accepted-settings _ (c .before .pre .0) in
     record { subframes = a .subframes; complexity = omega (arith, a .complexity); long = omega (arith, c .before .pre .1 .1 .1) }
 
-enum-told : tie.Need-enum-told
-enum-told c = search zneeds
-
-enum-told-2 : tie.Need-enum-told-2
-enum-told-2 c = search zneeds
-
-enum-told-3 : tie.Need-enum-told-3
-enum-told-3 c = search zneeds
-
 array-share-prefix-lags : tie.Need-array-share-prefix-lags
 array-share-prefix-lags c = let d = c .before .before .before in omega (arith, size d, count-le d)
 
@@ -107,4 +98,7 @@ returns-3 c =
     ∙ by d Goes e
 
 pub stages-spec : {M : Type 1} → statement M
-stages-spec = tie.close (tie.spec search-stage1-requires enum-told enum-told-2 enum-told-3 array-share-prefix-lags slice-aggregate-second-stage second-stage-requires returns returns-2 returns-3)
+stages-spec =
+    tie.close
+    (tie.spec search-stage1-requires (λ c. search zneeds) (λ c. search zneeds) (λ c. search zneeds) array-share-prefix-lags
+    slice-aggregate-second-stage second-stage-requires returns returns-2 returns-3)

@@ -34,4 +34,5 @@ returns-3 c = c .unpitched-row2 .ensures ∙ ap (row-from (c .before .before .be
 pub verdict-row-spec : {M : Type 1} → statement M
 verdict-row-spec =
     tie.close
-    (tie.spec (λ c. search zneeds) voiced-row-requires (λ c. search zneeds) (λ c κs. search zneeds) (λ c. search zneeds) (λ c κs. search zneeds) returns returns-2 returns-3)
+    (tie.spec (λ c. search zneeds) voiced-row-requires (λ c. search zneeds) (λ c κs. search zneeds) (λ c. search zneeds) (λ c κs. search zneeds)
+    returns returns-2 returns-3)

@@ -9,22 +9,10 @@ use Rattle.silk_pitch_analysis.specs.declared.Verdict.the-variants.{Voic
 use Rattle.silk_pitch_analysis.proofs.voiced.Statement.{statement}
 use Rattle.silk_pitch_analysis.proofs.voiced.Tie as tie
 
-cast-index : tie.Need-cast-index
-cast-index c = search zneeds
-
-mul-index : tie.Need-mul-index
-mul-index c = search zneeds
-
-cast-index-2 : tie.Need-cast-index-2
-cast-index-2 c = search zneeds
-
 sub-index : tie.Need-sub-index
 sub-index c =
     f-sub (r-nat w32 (c .args .lag) (omega arith)) (r-nat w32 (2 * c .args .fs-khz) (omega arith))
     (sfits-by w32 (n (c .args .lag) ⊖ n (2 * c .args .fs-khz)) (omega arith) (omega arith))
-
-cast-contour : tie.Need-cast-contour
-cast-contour c = search zneeds
 
 returns : tie.Need-returns
 returns c =
@@ -36,4 +24,4 @@ returns c =
     λ t. Voiced (i t) (j t) (k t)
 
 pub voiced-spec : {M : Type 1} → statement M
-voiced-spec = tie.close (tie.spec cast-index mul-index cast-index-2 sub-index cast-contour returns)
+voiced-spec = tie.close (tie.spec (λ c. search zneeds) (λ c. search zneeds) (λ c. search zneeds) sub-index (λ c. search zneeds) returns)
