@@ -9,10 +9,10 @@ use Rattle.lists.specs.Fill.{tabulate}
 use Rattle.lists.specs.FillLaws.{length-tabulate, tabulate-ext}
 
 module _ {A : Type 0} where
-  table-cons : (f : ℕ → A) (n : ℕ) → tabulate f (suc n) ≡ f 0 ∷ tabulate (λ k. f (suc k)) n
+  tabulate-cons : (f : ℕ → A) (n : ℕ) → tabulate f (suc n) ≡ f 0 ∷ tabulate (λ k. f (suc k)) n
   unfolding tabulate
-  table-cons f zero = refl
-  table-cons f (suc n) = ap (λ (t : List A). t ++ (f (suc n) ∷ [])) (table-cons f n)
+  tabulate-cons f zero = refl
+  tabulate-cons f (suc n) = ap (λ (t : List A). t ++ (f (suc n) ∷ [])) (tabulate-cons f n)
 
   -- l with f i, .., f (n - 1) in the places from i up to n
   unfoldable pub filled-from : (ℕ → A) → ℕ → ℕ → List A → List A
@@ -32,7 +32,7 @@ module _ {A : Type 0} where
       let z : i + 0 ≡ i = omega arith in
       let t : tabulate (λ j. f (i + j)) (n - i) ≡ f i ∷ tabulate (λ j. f (suc i + j)) (n - suc i) =
       ap (tabulate (λ j. f (i + j))) d
-      ∙ table-cons (λ j. f (i + j)) (n - suc i)
+      ∙ tabulate-cons (λ j. f (i + j)) (n - suc i)
       ∙ ap₂ (λ (x : A) (s : List A). x ∷ s) (ap f z) (tabulate-ext (n - suc i) (λ j l. let e : i + suc j ≡ suc i + j = omega arith in ap f e)) in
       ap (λ (s : List A). set (s ++ rest) i (f i)) (take-suc l i (f i) (omega arith))
       ∙ ap (λ (s : List A). set s i (f i)) (append-snoc (take i l) (getD l i (f i)) rest)

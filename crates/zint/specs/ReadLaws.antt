@@ -51,24 +51,24 @@ r-bits {w} {m} {n} {a} e p = subst (λ (x : ℕ). Reads w x a) (sym e) p
 pub r-as : {w : Width} {m : ℕ} {a b : ℤ} → Reads w m a → a ≡ b → Reads w m b
 r-as {w} p e = record { val = p .val ∙ e; fit = subst (SFits w) e (p .fit); room = p .room }
 
--- the result of an operation that is read by its signed value: what it asks, as a fact of the numbers that were read
-made : {w : Width} {x z : ℤ} → x ≡ z → SFits w z → Reads w (ofZ w x) z
-made {w} {x} {z} e f = record { val = ap (λ (y : ℤ). toZ w (ofZ w y)) e ∙ toZ-ofZ w z f; fit = f; room = ofZ-fits w x (subst (SFits w) (sym e) f) }
+-- the bits of a number that is z, where z fits: the result of an operation that is read by its signed value
+pub r-is : {w : Width} {x z : ℤ} → x ≡ z → SFits w z → Reads w (ofZ w x) z
+r-is {w} {x} {z} e f = record { val = ap (λ (y : ℤ). toZ w (ofZ w y)) e ∙ toZ-ofZ w z f; fit = f; room = ofZ-fits w x (subst (SFits w) (sym e) f) }
 
 pub r-add : {w : Width} {m n : ℕ} {a b : ℤ} → Reads w m a → Reads w n b → SFits w (a +ℤ b) → Reads w (ofZ w (toZ w m +ℤ toZ w n)) (a +ℤ b)
-r-add p q f = made (ap₂ (λ (x y : ℤ). x +ℤ y) (p .val) (q .val)) f
+r-add p q f = r-is (ap₂ (λ (x y : ℤ). x +ℤ y) (p .val) (q .val)) f
 
 pub r-sub : {w : Width} {m n : ℕ} {a b : ℤ} → Reads w m a → Reads w n b → SFits w (a -ℤ b) → Reads w (ofZ w (toZ w m -ℤ toZ w n)) (a -ℤ b)
-r-sub p q f = made (ap₂ (λ (x y : ℤ). x -ℤ y) (p .val) (q .val)) f
+r-sub p q f = r-is (ap₂ (λ (x y : ℤ). x -ℤ y) (p .val) (q .val)) f
 
 pub r-mul : {w : Width} {m n : ℕ} {a b : ℤ} → Reads w m a → Reads w n b → SFits w (a *ℤ b) → Reads w (ofZ w (toZ w m *ℤ toZ w n)) (a *ℤ b)
-r-mul p q f = made (ap₂ (λ (x y : ℤ). x *ℤ y) (p .val) (q .val)) f
+r-mul p q f = r-is (ap₂ (λ (x y : ℤ). x *ℤ y) (p .val) (q .val)) f
 
 pub r-div : {w : Width} {m n : ℕ} {a b : ℤ} → Reads w m a → Reads w n b → SFits w (quotZ a b) → Reads w (ofZ w (quotZ (toZ w m) (toZ w n))) (quotZ a b)
-r-div p q f = made (ap₂ (λ (x y : ℤ). quotZ x y) (p .val) (q .val)) f
+r-div p q f = r-is (ap₂ (λ (x y : ℤ). quotZ x y) (p .val) (q .val)) f
 
 pub r-cast : {w w′ : Width} {m : ℕ} {a : ℤ} → Reads w m a → SFits w′ a → Reads w′ (ofZ w′ (toZ w m)) a
-r-cast p f = made (p .val) f
+r-cast p f = r-is (p .val) f
 
 -- a parameter, or a call's result, that is widened
 pub wide : (w w′ : Width) {a : ℤ} → T (leb (2 ^ hbits w) (2 ^ hbits w′)) → SFits w a → Reads w′ (ofZ w′ (toZ w (ofZ w a))) a
@@ -82,7 +82,7 @@ wide-64 f = wide w32 w64 tt f
 
 -- a call's result, as what the callee ensures it to be: `r-got w32 (c .f .ok) (c .f .ensures)`
 pub r-got : (w : Width) {r z : ℤ} → mag r < 2 ^ hbits w → r ≡ z → Reads w (ofZ w r) z
-r-got w {r} {z} l e = made e (subst (SFits w) e (record { sfits = l }))
+r-got w {r} {z} l e = r-is e (subst (SFits w) e (record { sfits = l }))
 
 -- the same where the callee's `ensures` says `r ≡ F x`, of one argument, two or three: `r-call1 w32 F (c .f .ok) rx (c .f .ensures)`, with rx the reading of the argument
 pub r-call1 : (w : Width) {w₁ : Width} {r x : ℤ} {m : ℕ} (F : ℤ → ℤ) → mag r < 2 ^ hbits w → Reads w₁ m x → r ≡ F (toZ w₁ m) → Reads w (ofZ w r) (F x)
@@ -96,7 +96,7 @@ r-call3 w F l p q o e = r-got w l (e ∙ (λ i. F (p .val i) (q .val i) (o .val 
 
 -- `a >> k`: m is 2 ^ k
 pub r-shr : {w : Width} {n : ℕ} {a : ℤ} (m : ℕ) → Reads w n a → Reads w (ofZ w (shrZ (toZ w n) m)) (shrZ a m)
-r-shr {w} {n} {a} m p = made (ap (λ (x : ℤ). shrZ x m) (p .val)) (shr-fits a m (p .fit))
+r-shr {w} {n} {a} m p = r-is (ap (λ (x : ℤ). shrZ x m) (p .val)) (shr-fits a m (p .fit))
 
 -- `a << k`: m is 2 ^ k
 pub r-shl : {w : Width} {n : ℕ} {a : ℤ} (m : ℕ) → Reads w n a → Reads w ((n * m) % 2 ^ bits w) (wrap w (a *ℤ pos m))
