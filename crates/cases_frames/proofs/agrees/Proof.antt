@@ -9,13 +9,10 @@ use Rattle.cases_frames.proofs.agrees.Tie as tie
 slice-aggregate-silk-pitch-analysis-core : tie.Need-slice-aggregate-silk-pitch-analysis-core
 slice-aggregate-silk-pitch-analysis-core c = sym (length-take-le _ _ (omega arith))
 
-returns-3 : tie.Need-returns-3
-returns-3 c = search needs
-
 pub agrees-spec : {M : Type 1} → statement M
 agrees-spec =
     tie.close
     (tie.spec (λ c. search needs) (λ c. search needs) (λ c κs. search needs) (λ c. search needs) slice-aggregate-silk-pitch-analysis-core
     (λ c. search needs) (λ c κs. search needs) (λ c. search needs) (λ c. search needs) (λ c. search needs) (λ c κs. search needs) (λ c. search needs)
     (λ c κs. search needs) (λ c. search needs) (λ c κs. search needs) (λ c. search needs) (λ c κs. search needs) (λ c. search needs)
-    (λ c κs. search needs) (λ c. search needs) returns-3)
+    (λ c κs. search needs) (λ c. search needs) (λ c. search needs))

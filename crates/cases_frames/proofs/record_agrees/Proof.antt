@@ -17,11 +17,9 @@ slice-aggregate-agrees c =
     let n = r .before .before .samples-of .result in
     sym (length-front (replicate 1312 0) (r .read-full .last .1 .0) (2 * n + 32) (r .read-full .kept .1 .0))
 
-returns-2 : tie.Need-returns-2
-returns-2 c = search needs
-
 pub record-agrees-spec : {M : Type 1} → statement M
 record-agrees-spec =
     tie.close
     (tie.spec (λ c κs. search needs) (λ c κs. search needs) (λ c. search needs) (λ c. search needs) (λ c. search needs) slice-aggregate-read-full
-    (λ c κs. search needs) (λ c. search needs) slice-aggregate-agrees (λ c κs. search needs) (λ c κs. search needs) (λ c κs. search needs) returns-2)
+    (λ c κs. search needs) (λ c. search needs) slice-aggregate-agrees (λ c κs. search needs) (λ c κs. search needs) (λ c κs. search needs)
+    (λ c. search needs))

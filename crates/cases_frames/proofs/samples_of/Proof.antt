@@ -7,15 +7,6 @@ use borrow.Author.Needs.{needs}
 use Rattle.cases_frames.proofs.samples_of.Statement.{statement}
 use Rattle.cases_frames.proofs.samples_of.Tie as tie
 
-settings-no-requires : tie.Need-settings-no-requires
-settings-no-requires c κs = search needs
-
-returns : tie.Need-returns
-returns c = search needs
-
-frame-length-requires : tie.Need-frame-length-requires
-frame-length-requires c κs = search needs
-
 returns-2 : tie.Need-returns-2
 returns-2 c =
     let s = c .before .before .before .args .s in
@@ -23,4 +14,5 @@ returns-2 c =
     omega (arith, accepted-settings s h .small)
 
 pub samples-of-spec : {M : Type 1} → statement M
-samples-of-spec = tie.close (tie.spec settings-no-requires returns frame-length-requires returns-2)
+samples-of-spec =
+    tie.close (tie.spec (λ c κs. search needs) (λ c. search needs) (λ c κs. search needs) returns-2)

@@ -7,9 +7,6 @@ use Rattle.cases_io.specs.Counts.{counted}
 use Rattle.cases_io.proofs.counted.Statement.{statement}
 use Rattle.cases_io.proofs.counted.Tie as tie
 
-wrapping-add-u64-requires : tie.Need-wrapping-add-u64-requires
-wrapping-add-u64-requires c κs = search needs
-
 returns : tie.Need-returns
 unfolding counted
 returns c = let a = c .before .before .args in c .wrapping-add-u64 .ensures ∙ sym (ap (λ (b : Bool). cond b ((a .n + 1) % 2 ^ 64) (a .n)) (c .before .if1 .taken))
@@ -19,4 +16,4 @@ unfolding counted
 returns-2 c = search needs
 
 pub counted-spec : {M : Type 1} → statement M
-counted-spec = tie.close (tie.spec wrapping-add-u64-requires returns returns-2)
+counted-spec = tie.close (tie.spec (λ c κs. search needs) returns returns-2)

@@ -10,18 +10,11 @@ use Rattle.cases_io.specs.Little.{u16-at, i16-at}
 use Rattle.cases_io.proofs.i16_at.Statement.{statement}
 use Rattle.cases_io.proofs.i16_at.Tie as tie
 
-u16-at-requires : tie.Need-u16-at-requires
-u16-at-requires c κs = search zneeds
-
-cast-as-i16 : tie.Need-cast-as-i16
-cast-as-i16 c = search zneeds
-
-as-i16-requires : tie.Need-as-i16-requires
-as-i16-requires c κs = search zneeds
-
 returns : tie.Need-returns
 unfolding i16-at
 returns c = r-call1 w16 (wrap w16) (c .as-i16 .ok) (r-as (r-nat w32 (c .before .u16-at .result) (omega arith)) (ap pos (c .before .u16-at .ensures))) (c .as-i16 .ensures) .val
 
 pub i16-at-spec : {M : Type 1} → statement M
-i16-at-spec = tie.close (tie.spec u16-at-requires cast-as-i16 as-i16-requires returns)
+i16-at-spec =
+    tie.close
+    (tie.spec (λ c κs. search zneeds) (λ c. search zneeds) (λ c κs. search zneeds) returns)

@@ -11,12 +11,9 @@ Inv-loop agreed total kind₀ t4 t5 t6 kind-end kind = kind ≤ length total
 abbrev μ-loop : tie.MeasureT-loop
 μ-loop agreed total kind₀ t4 t5 t6 kind-end kind = length total - kind
 
-returns : tie.Need-returns Inv-loop μ-loop
-returns c = search needs
-
 pub report-spec : {M : Type 1} → statement M
 report-spec =
     tie.close
     (tie.spec Inv-loop μ-loop (λ c. search needs) (λ c. search needs) (λ c κs. search needs) (λ c κs. search needs) (λ c κs. search needs)
     (λ c. search needs) (λ c κs. search needs) (λ c. search needs) (λ c. search needs) (λ c. search needs) (λ c κs. search needs) (λ c. search needs)
-    (λ c κs. search needs) returns)
+    (λ c κs. search needs) (λ c. search needs))

@@ -5,15 +5,9 @@ use Rattle.cases_io.specs.Counts.{tally, totals-of}
 use Rattle.cases_io.proofs.totals.Statement.{statement}
 use Rattle.cases_io.proofs.totals.Tie as tie
 
-sum-of-requires : tie.Need-sum-of-requires
-sum-of-requires c κs = search needs
-
-sum-of-requires-2 : tie.Need-sum-of-requires-2
-sum-of-requires-2 c κs = search needs
-
 returns : tie.Need-returns
 unfolding totals-of
 returns c = ap₂ tally (c .before .sum-of .ensures) (c .sum-of2 .ensures)
 
 pub totals-spec : {M : Type 1} → statement M
-totals-spec = tie.close (tie.spec sum-of-requires sum-of-requires-2 returns)
+totals-spec = tie.close (tie.spec (λ c κs. search needs) (λ c κs. search needs) returns)

@@ -9,13 +9,10 @@ use Rattle.cases_resampler.proofs.down2_agrees.Tie as tie
 slice-aggregate-same-i16s : tie.Need-slice-aggregate-same-i16s
 slice-aggregate-same-i16s c = sym (length-take-le _ _ (omega arith))
 
-returns-3 : tie.Need-returns-3
-returns-3 c = search needs
-
 pub down2-agrees-spec : {M : Type 1} → statement M
 down2-agrees-spec =
     tie.close
     (tie.spec (λ c. search needs) (λ c κs. search needs) (λ c. search needs) (λ c κs. search needs) (λ c. search needs) (λ c κs. search needs)
     (λ c. search needs) (λ c κs. search needs) (λ c. search needs) (λ c κs. search needs) (λ c. search needs) (λ c. search needs) (λ c. search needs)
     (λ c κs. search needs) (λ c. search needs) slice-aggregate-same-i16s (λ c κs. search needs) (λ c. search needs) (λ c κs. search needs)
-    (λ c. search needs) returns-3)
+    (λ c. search needs) (λ c. search needs))

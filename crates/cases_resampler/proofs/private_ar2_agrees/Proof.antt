@@ -21,9 +21,6 @@ slice-aggregate-silk-resampler-private-ar2-4 c = search needs
 slice-aggregate-same-i32s : tie.Need-slice-aggregate-same-i32s
 slice-aggregate-same-i32s c = sym (length-take-le _ _ (omega arith))
 
-returns-3 : tie.Need-returns-3
-returns-3 c = search needs
-
 pub private-ar2-agrees-spec : {M : Type 1} → statement M
 private-ar2-agrees-spec =
     tie.close
@@ -31,4 +28,4 @@ private-ar2-agrees-spec =
     (λ c κs. search needs) (λ c. search needs) (λ c κs. search needs) (λ c. search needs) (λ c κs. search needs) (λ c. search needs)
     (λ c κs. search needs) (λ c. search needs) slice-aggregate-silk-resampler-private-ar2-2 slice-aggregate-silk-resampler-private-ar2-3
     slice-aggregate-silk-resampler-private-ar2-4 (λ c κs. search needs) (λ c. search needs) slice-aggregate-same-i32s (λ c κs. search needs)
-    (λ c. search needs) (λ c κs. search needs) (λ c. search needs) returns-3)
+    (λ c. search needs) (λ c κs. search needs) (λ c. search needs) (λ c. search needs))

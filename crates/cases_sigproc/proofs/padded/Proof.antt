@@ -8,14 +8,8 @@ use lib.Seq.{length-take-le, length-front}
 use Rattle.cases_sigproc.proofs.padded.Statement.{statement}
 use Rattle.cases_sigproc.proofs.padded.Tie as tie
 
-array-borrow-prefix-y : tie.Need-array-borrow-prefix-y
-array-borrow-prefix-y c = search needs
-
 slice-aggregate-load-i16s : tie.Need-slice-aggregate-load-i16s
 slice-aggregate-load-i16s c = sym (length-take-le _ _ (omega arith))
-
-load-i16s-requires : tie.Need-load-i16s-requires
-load-i16s-requires c κs = search needs
 
 returns : tie.Need-returns
 returns c =
@@ -25,4 +19,5 @@ returns c =
 
 pub padded-spec : {M : Type 1} → statement M
 padded-spec =
-    tie.close (tie.spec array-borrow-prefix-y slice-aggregate-load-i16s load-i16s-requires returns)
+    tie.close
+    (tie.spec (λ c. search needs) slice-aggregate-load-i16s (λ c κs. search needs) returns)

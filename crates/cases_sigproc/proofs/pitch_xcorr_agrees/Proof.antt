@@ -9,13 +9,10 @@ use Rattle.cases_sigproc.proofs.pitch_xcorr_agrees.Tie as tie
 slice-aggregate-same-i32s : tie.Need-slice-aggregate-same-i32s
 slice-aggregate-same-i32s c = sym (length-take-le _ _ (omega arith))
 
-returns-4 : tie.Need-returns-4
-returns-4 c = search needs
-
 pub pitch-xcorr-agrees-spec : {M : Type 1} → statement M
 pitch-xcorr-agrees-spec =
     tie.close
     (tie.spec (λ c κs. search needs) (λ c κs. search needs) (λ c κs. search needs) (λ c. search needs) (λ c. search needs) (λ c. search needs)
     (λ c. search needs) (λ c. search needs) (λ c κs. search needs) (λ c κs. search needs) (λ c. search needs) (λ c κs. search needs)
     (λ c κs. search needs) (λ c. search needs) (λ c. search needs) (λ c. search needs) (λ c κs. search needs) (λ c. search needs)
-    (λ c κs. search needs) (λ c. search needs) slice-aggregate-same-i32s (λ c κs. search needs) returns-4)
+    (λ c κs. search needs) (λ c. search needs) slice-aggregate-same-i32s (λ c κs. search needs) (λ c. search needs))

@@ -11,11 +11,8 @@ Inv-loop bytes group name tally₀ at₀ tally at = at ≤ length bytes
 abbrev μ-loop : tie.MeasureT-loop
 μ-loop bytes group name tally₀ at₀ tally at = length bytes - at
 
-returns : tie.Need-returns Inv-loop μ-loop
-returns c = search needs
-
 pub replay-spec : {M : Type 1} → statement M
 replay-spec =
     tie.close
     (tie.spec Inv-loop μ-loop (λ c κs. search needs) (λ c. search needs) (λ c κs. search needs) (λ c κs. search needs) (λ c κs. search needs)
-    (λ c κs. search needs) (λ c. search needs) (λ c. search needs) (λ c κs. search needs) returns)
+    (λ c κs. search needs) (λ c. search needs) (λ c. search needs) (λ c κs. search needs) (λ c. search needs))

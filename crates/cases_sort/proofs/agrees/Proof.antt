@@ -24,9 +24,6 @@ slice-aggregate-same-indices c = sym (length-take-le _ _ (omega arith))
 slice-aggregate-same-i16s : tie.Need-slice-aggregate-same-i16s
 slice-aggregate-same-i16s c = sym (length-take-le _ _ (omega arith))
 
-returns-5 : tie.Need-returns-5
-returns-5 c = search needs
-
 pub agrees-spec : {M : Type 1} → statement M
 agrees-spec =
     tie.close
@@ -34,4 +31,4 @@ agrees-spec =
     (λ c. search needs) (λ c κs. search needs) (λ c. search needs) (λ c κs. search needs) slice-aggregate-silk-insertion-sort-decreasing-int16
     slice-aggregate-silk-insertion-sort-decreasing-int16-2 silk-insertion-sort-decreasing-int16-requires (λ c. search needs)
     slice-aggregate-same-indices (λ c κs. search needs) (λ c. search needs) slice-aggregate-same-i16s (λ c κs. search needs) (λ c. search needs)
-    returns-5)
+    (λ c. search needs))

@@ -11,12 +11,9 @@ Inv-loop bytes tally₀ at₀ t6 tally at = at ≤ length bytes
 abbrev μ-loop : tie.MeasureT-loop
 μ-loop bytes tally₀ at₀ t6 tally at = length bytes - at
 
-returns : tie.Need-returns Inv-loop μ-loop
-returns c = search needs
-
 pub replay-spec : {M : Type 1} → statement M
 replay-spec =
     tie.close
     (tie.spec Inv-loop μ-loop (λ c κs. search needs) (λ c. search needs) (λ c κs. search needs) (λ c κs. search needs) (λ c κs. search needs)
     (λ c κs. search needs) (λ c κs. search needs) (λ c κs. search needs) (λ c. search needs) (λ c. search needs) (λ c. search needs)
-    (λ c κs. search needs) returns)
+    (λ c κs. search needs) (λ c. search needs))

@@ -11,11 +11,8 @@ Inv-loop bytes at idx place₀ i₀ i-end place i = i ≤ length idx
 abbrev μ-loop : tie.MeasureT-loop
 μ-loop bytes at idx place₀ i₀ i-end place i = length idx - i
 
-returns-2 : tie.Need-returns-2 Inv-loop μ-loop
-returns-2 c = search needs
-
 pub same-indices-spec : {M : Type 1} → statement M
 same-indices-spec =
     tie.close
     (tie.spec Inv-loop μ-loop (λ c. search needs) (λ c. search needs) (λ c. search needs) (λ c κs. search needs) (λ c. search needs)
-    (λ c κs. search needs) (λ c. search needs) (λ c. search needs) (λ c. search needs) returns-2)
+    (λ c κs. search needs) (λ c. search needs) (λ c. search needs) (λ c. search needs) (λ c. search needs))

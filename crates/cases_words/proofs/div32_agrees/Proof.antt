@@ -9,10 +9,7 @@ silk-div32-requires c κs = c .before .before .divides .ensures (c .before .if1 
 silk-div32-16-requires : tie.Need-silk-div32-16-requires
 silk-div32-16-requires c κs = c .before .before .divides .ensures (c .before .if1 .taken)
 
-returns-3 : tie.Need-returns-3
-returns-3 c = search zneeds
-
 pub div32-agrees-spec : {M : Type 1} → statement M
 div32-agrees-spec =
     tie.close
-    (tie.spec (λ c κs. search zneeds) silk-div32-requires silk-div32-16-requires (λ c. search zneeds) (λ c. search zneeds) returns-3)
+    (tie.spec (λ c κs. search zneeds) silk-div32-requires silk-div32-16-requires (λ c. search zneeds) (λ c. search zneeds) (λ c. search zneeds))

@@ -19,11 +19,8 @@ Inv-loop bytes op name tally₀ at₀ tally at = at ≤ length bytes
 abbrev μ-loop : tie.MeasureT-loop
 μ-loop bytes op name tally₀ at₀ tally at = length bytes - at
 
-returns : tie.Need-returns Inv-loop μ-loop
-returns c = search zneeds
-
 pub replay-spec : {M : Type 1} → statement M
 replay-spec =
     tie.close
     (tie.spec Inv-loop μ-loop (λ c κs. search zneeds) (λ c. search zneeds) (λ c κs. search zneeds) (λ c κs. search zneeds) (λ c κs. search zneeds)
-    (λ c κs. search zneeds) (λ c. search zneeds) (λ c. search zneeds) (λ c κs. search zneeds) returns)
+    (λ c κs. search zneeds) (λ c. search zneeds) (λ c. search zneeds) (λ c κs. search zneeds) (λ c. search zneeds))

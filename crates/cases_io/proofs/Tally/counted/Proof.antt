@@ -5,15 +5,9 @@ use Rattle.cases_io.specs.Counts.{tally, tally-after}
 use Rattle.cases_io.proofs.Tally.counted.Statement.{statement}
 use Rattle.cases_io.proofs.Tally.counted.Tie as tie
 
-counted-requires : tie.Need-counted-requires
-counted-requires c κs = search needs
-
-counted-requires-2 : tie.Need-counted-requires-2
-counted-requires-2 c κs = search needs
-
 returns : tie.Need-returns
 unfolding tally-after
 returns c = ap₂ tally (c .before .counted .ensures) (c .counted2 .ensures)
 
 pub counted-spec : {M : Type 1} → statement M
-counted-spec = tie.close (tie.spec counted-requires counted-requires-2 returns)
+counted-spec = tie.close (tie.spec (λ c κs. search needs) (λ c κs. search needs) returns)
