@@ -13,6 +13,7 @@ use cases_io::u16_at;
 use silk_resampler::silk_resampler_down2;
 use silk_resampler::silk_resampler_down2_3;
 use silk_resampler::silk_resampler_private_ar2;
+use silk_resampler::source_filter;
 
 // Each of these three takes the place of the states.
 fn down2_agrees(bytes: &[u8], states: usize, n: usize) -> bool {
@@ -46,7 +47,7 @@ fn private_ar2_agrees(bytes: &[u8], states: usize, n: usize) -> bool {
     load_i32s(bytes, states, &mut s);
     load_i16s(bytes, coefs, &mut a);
     load_i16s(bytes, samples, &mut input);
-    silk_resampler_private_ar2(&mut s, &mut out, &input, &a, n);
+    silk_resampler_private_ar2(&mut s, &mut out, &input, &a, n, source_filter());
     same_i32s(bytes, outputs, &out[..n]) && same_i32s(bytes, after, &s)
 }
 
@@ -62,7 +63,7 @@ fn down2_3_agrees(bytes: &[u8], states: usize, n: usize) -> bool {
     let mut out = [0i16; 320];
     load_i32s(bytes, states, &mut s);
     load_i16s(bytes, samples, &mut input);
-    silk_resampler_down2_3(&mut s, &mut out, &input, n);
+    silk_resampler_down2_3(&mut s, &mut out, &input, n, source_filter());
     same_i16s(bytes, outputs, &out[..2 * (n / 3)]) && same_i32s(bytes, after, &s)
 }
 

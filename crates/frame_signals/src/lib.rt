@@ -11,6 +11,7 @@ ghost use Rattle.frame_signals.specs.Signals.{down-to-8khz, two-tap, dow
 use silk_macros::silk_add_sat16;
 use silk_resampler::silk_resampler_down2;
 use silk_resampler::silk_resampler_down2_3;
+use silk_resampler::source_filter;
 use silk_sigproc::bits_over;
 use silk_sigproc::silk_sum_sqr_shift;
 
@@ -72,7 +73,7 @@ fn two_thirds_into(frame: &[i16], out: &mut [i16])
     ensures { λ r. ⌜ now (out .exit) ≡ overwritten (down2-3 source-filter (now (frame .entry))) (now (out .entry)) ⌝ }
 {
     let mut filt_state = [0i32; 6];
-    silk_resampler_down2_3(&mut filt_state, out, frame, frame.len());
+    silk_resampler_down2_3(&mut filt_state, out, frame, frame.len(), source_filter());
 }
 
 // The working frame at 8 kHz, in the first places of out; at 8 kHz it is a copy.

@@ -1,8 +1,8 @@
 -- Two thirds of the rate (`silk_resampler_private_ar2` and one batch of `silk_resampler_down2_3`, resampler.rs): a second-order recursion into a buffer, then two outputs for
--- every three values of it. What differs between the source and the RFC's reference code is a parameter, `Filter`. Definitions only.
+-- every three values of it. What differs between the source and the RFC's reference code is a parameter, the code's own `Filter`. Definitions only.
 use mathlib.Core.Bool.{cond}
 use mathlib.Core.List.{List, _∷_, _++_}
-use Prim.Native.Nat.{ℕ, zero, suc, _+_, _-_, _*_, _/_, _%_}
+use Prim.Native.Nat.{ℕ, zero, suc, _+_, _-_, _*_, _/_, _%_, _<_}
 use lib.Dec.{ltb, eqb}
 use lib.IntN.{ℤ, pos, _+ℤ_, _*ℤ_}
 use lib.ListN.{length, drop, replicate}
@@ -13,17 +13,20 @@ use Rattle.silk_macros.specs.Macros.{smulwb, smlawb, rshift-round}
 use Rattle.lists.specs.Fill.{tabulate}
 use Rattle.lists.specs.Signal.{sample}
 use Rattle.zint.specs.Minus.{minus}
-
--- by what the filter's output is multiplied before a coefficient, how often it is itself added to the first state, and the bits by which outputs 2m and 2m + 1 are rounded
-pub record Filter : Type 0 where
-  pub factor : ℕ
-  pub adds : ℕ
-  pub round-even : ℕ
-  pub round-odd : ℕ
+use Rattle.silk_resampler.specs.declared.Filter.{Filter}
 
 -- the source's: no factor 4, the output added, and 9 and 8 bits
 unfoldable pub source-filter : Filter
-source-filter = record { factor = 1; adds = 1; round-even = 9; round-odd = 8 }
+source-filter = record { factor = 1; adds = 1; «round_even» = 9; «round_odd» = 8 }
+
+-- a filter that the code can use: the numbers fit a signed word, and the roundings round
+pub record UsableFilter (F : Filter) : Type 0 where
+  pub factor-fits : F .factor < 2147483648
+  pub adds-fits : F .adds < 2147483648
+  pub even-rounds : 0 < F .«round_even»
+  pub even-below : F .«round_even» < 31
+  pub odd-rounds : 0 < F .«round_odd»
+  pub odd-below : F .«round_odd» < 31
 
 -- ---- the recursion, with the coefficients a and b
 
@@ -74,10 +77,10 @@ rounded s z = sat w16 (rshift-round z s)
 
 -- outputs 2m and 2m + 1: the same coefficients from the other end
 unfoldable pub even-out : Filter → (ℕ → ℤ) → ℕ → ℤ
-even-out F b m = rounded (F .round-even) (weighted (pos 4697) (pos 10739) (pos 8276) (pos 1567) b (3 * m))
+even-out F b m = rounded (F .«round_even») (weighted (pos 4697) (pos 10739) (pos 8276) (pos 1567) b (3 * m))
 
 unfoldable pub odd-out : Filter → (ℕ → ℤ) → ℕ → ℤ
-odd-out F b m = rounded (F .round-odd) (weighted (pos 1567) (pos 8276) (pos 10739) (pos 4697) b (3 * m + 1))
+odd-out F b m = rounded (F .«round_odd») (weighted (pos 1567) (pos 8276) (pos 10739) (pos 4697) b (3 * m + 1))
 
 -- output j
 unfoldable pub decimated : Filter → (ℕ → ℤ) → ℕ → ℤ

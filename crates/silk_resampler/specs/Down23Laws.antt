@@ -1,4 +1,4 @@
--- Laws of the decimator by two thirds: the source's steps, one turn of each loop, the widths of what they hold, the buffer, lengths, and the frame alone.
+-- Laws of the decimator by two thirds, for any filter: a step of the code, one turn of each loop, the widths of what they hold, the buffer, lengths, and the frame alone.
 use mathlib.Core.Path.{_≡_, refl, sym, ap, ap₂, _∙_}
 use mathlib.Core.Bool.{Bool, true, false, cond}
 use mathlib.Core.List.{List, [], _∷_, _++_}
@@ -12,60 +12,62 @@ use lib.IntN.{ℤ, pos, _+ℤ_, _*ℤ_}
 use lib.ListN.{length, getD, drop, take, replicate, length-drop, List·getD-append}
 use lib.Seq.{length-take-le, getD-take, getD-drop, getD-append-add, drop-at}
 use mir.Syntax.{w16, w32}
-use mir.Val.{SFits}
+use mir.Val.{SFits, toZ, ofZ}
 use Rattle.zint.specs.ClampLaws.{sat-fits}
-use Rattle.zint.specs.DiffLaws.{v, n, _⊕_, _⊗_, ring}
+use Rattle.zint.specs.ReadLaws.{r-is}
 use Rattle.zint.specs.Wrap.{wrap}
-use Rattle.zint.specs.WrapLaws.{wrap-fits, wrap-id, wrap-add-r}
+use Rattle.zint.specs.WrapLaws.{wrap-fits, wraps}
 use Rattle.silk_macros.specs.Macros.{smulwb, smlawb, rshift-round}
 use Rattle.silk_macros.specs.MacroLaws.{smulwb-fits}
 use Rattle.lists.specs.Fill.{tabulate, filled}
 use Rattle.lists.specs.FillLaws.{filled-all, take-filled, length-tabulate, length-filled, getD-filled, tabulate-ext, filled-ext}
 use Rattle.lists.specs.Signal.{sample}
-use Rattle.silk_resampler.specs.Down23.{Filter, source-filter, States, ar2-out, feedback, first-next, ar2-states, filtered, states-of, with-states, weighted, rounded, even-out, odd-out, decimated, joined, buffer, down2-3}
+use Rattle.silk_resampler.specs.Down23.{States, ar2-out, feedback, first-next, ar2-states, filtered, states-of, with-states, weighted, rounded, even-out, odd-out, decimated, joined, buffer, down2-3}
+use Rattle.silk_resampler.specs.declared.Filter.{Filter}
 use Rattle.silk_resampler.specs.Down2Laws.{table-fits}
 
--- ---- the source's steps
+-- ---- a step of the code: what the second state, the output's part and the feedback sum to, each wrapped
 
-source-fed : (o : ℤ) → SFits w32 o → wrap w32 (o *ℤ pos 1) ≡ o
-source-fed o f = ap (wrap w32) (ring (v o ⊗ n 1) (v o) (omega arith)) ∙ wrap-id w32 o f
-
-pub source-first : (a t o : ℤ) → SFits w32 o → wrap w32 (t +ℤ smlawb o o a) ≡ first-next source-filter a t o
-unfolding source-filter first-next feedback smlawb
-source-first a t o f =
-    wrap-add-r w32 t (o +ℤ smulwb o a)
-    ∙ ap (wrap w32) (ring (v t ⊕ (v o ⊕ v (smulwb o a))) (v t ⊕ v o ⊗ n 1 ⊕ v (smulwb o a)) (omega arith))
-    ∙ ap (λ (z : ℤ). wrap w32 (t +ℤ o *ℤ pos 1 +ℤ smulwb z a)) (sym (source-fed o f))
-
-pub source-second : (a o : ℤ) → SFits w32 o → smlawb (pos 0) o a ≡ feedback source-filter a o
-unfolding source-filter feedback smlawb
-source-second a o f =
-    ap (wrap w32) (ring (n 0 ⊕ v (smulwb o a)) (v (smulwb o a)) (omega arith))
-    ∙ wrap-id w32 (smulwb o a) (smulwb-fits a f)
-    ∙ ap (λ (z : ℤ). smulwb z a) (sym (source-fed o f))
+pub first-words : (F : Filter) (a t o : ℤ) → wrap w32 (wrap w32 (t +ℤ wrap w32 (o *ℤ pos (F .adds))) +ℤ smulwb (wrap w32 (o *ℤ pos (F .factor))) a) ≡ first-next F a t o
+unfolding first-next feedback
+first-words F a t o = simp wraps
 
 -- ---- the recursion: one turn, and widths
 
 module _ (F : Filter) (a b : ℤ) (s : States) (x : ℕ → ℤ) (k : ℕ) where
-  pub first-turn : ar2-states F a b s x (k + 1) .first ≡ first-next F a (ar2-states F a b s x k .second) (filtered F a b s x k)
+  first-turn : ar2-states F a b s x (k + 1) .first ≡ first-next F a (ar2-states F a b s x k .second) (filtered F a b s x k)
   unfolding ar2-states filtered
   first-turn = ap (λ (m : ℕ). ar2-states F a b s x m .first) (add-one k)
 
-  pub second-turn : ar2-states F a b s x (k + 1) .second ≡ feedback F b (filtered F a b s x k)
+  second-turn : ar2-states F a b s x (k + 1) .second ≡ feedback F b (filtered F a b s x k)
   unfolding ar2-states filtered
   second-turn = ap (λ (m : ℕ). ar2-states F a b s x m .second) (add-one k)
 
-pub out-fits : (s a : ℤ) → SFits w32 (ar2-out s a)
+out-fits : (s a : ℤ) → SFits w32 (ar2-out s a)
 unfolding ar2-out
 out-fits s a = wrap-fits w32 (s +ℤ a *ℤ pos 256)
 
-pub first-fits : (F : Filter) (a t o : ℤ) → SFits w32 (first-next F a t o)
+first-fits : (F : Filter) (a t o : ℤ) → SFits w32 (first-next F a t o)
 unfolding first-next
 first-fits F a t o = wrap-fits w32 (t +ℤ o *ℤ pos (F .adds) +ℤ feedback F a o)
 
-pub feedback-fits : (F : Filter) (a o : ℤ) → SFits w32 (feedback F a o)
+feedback-fits : (F : Filter) (a o : ℤ) → SFits w32 (feedback F a o)
 unfolding feedback
 feedback-fits F a o = smulwb-fits a (wrap-fits w32 (o *ℤ pos (F .factor)))
+
+-- one turn of the code, of the coefficients, states and sample that it reads: the states after it, and the output
+pub ar2-turn : (F : Filter) (a b : ℤ) (s : States) (x : ℕ → ℤ) (k : ℕ) {c d p q v n m o : ℤ} → c ≡ a → d ≡ b → p ≡ ar2-states F a b s x k .first → q ≡ ar2-states F a b s x k .second → v ≡ x k
+    → (n ≡ first-next F c q (ar2-out p v)) × (m ≡ feedback F d (ar2-out p v)) × (o ≡ ar2-out p v)
+    → (toZ w32 (ofZ w32 n) ≡ ar2-states F a b s x (k + 1) .first) × (toZ w32 (ofZ w32 m) ≡ ar2-states F a b s x (k + 1) .second) × (toZ w32 (ofZ w32 o) ≡ filtered F a b s x k)
+unfolding filtered
+ar2-turn F a b s x k ec ed ep eq ev e =
+    let z = ar2-states F a b s x k in
+    let y = filtered F a b s x k in
+    let ey = ap₂ ar2-out ep ev in (
+      r-is (e .0 ∙ (λ i. first-next F (ec i) (eq i) (ey i))) (first-fits F a (z .second) y) .val ∙ sym (first-turn F a b s x k),
+      r-is (e .1 ∙ ap₂ (feedback F) ed ey) (feedback-fits F b y) .val ∙ sym (second-turn F a b s x k),
+      r-is (e .2 ∙ ey) (out-fits (z .first) (x k)) .val,
+    )
 
 -- ---- the outputs: one turn of two, widths, and what they depend on
 
@@ -93,8 +95,8 @@ unfolding decimated even-out odd-out
 decimated-fits F b j = by (eqb (j % 2) 0)
   where
     by : (t : Bool) → SFits w16 (cond t (even-out F b (j / 2)) (odd-out F b (j / 2)))
-    by true = rounded-fits (F .round-even) _
-    by false = rounded-fits (F .round-odd) _
+    by true = rounded-fits (F .«round_even») _
+    by false = rounded-fits (F .«round_odd») _
 
 module _ {b b′ : ℕ → ℤ} where
   weighted-ext : (c d e f : ℤ) (p : ℕ) → ((i : ℕ) → i < p + 4 → b i ≡ b′ i) → weighted c d e f b p ≡ weighted c d e f b′ p
@@ -110,8 +112,8 @@ module _ {b b′ : ℕ → ℤ} where
   pub decimated-ext : (F : Filter) (m j : ℕ) → j < 2 * m → ((i : ℕ) → i < 3 * m + 2 → b i ≡ b′ i) → decimated F b j ≡ decimated F b′ j
   unfolding decimated even-out odd-out
   decimated-ext F m j l h =
-      let p = ap (rounded (F .round-even)) (weighted-ext (pos 4697) (pos 10739) (pos 8276) (pos 1567) (3 * (j / 2)) (λ i g. h i (omega arith))) in
-      let q = ap (rounded (F .round-odd)) (weighted-ext (pos 1567) (pos 8276) (pos 10739) (pos 4697) (3 * (j / 2) + 1) (λ i g. h i (omega arith))) in
+      let p = ap (rounded (F .«round_even»)) (weighted-ext (pos 4697) (pos 10739) (pos 8276) (pos 1567) (3 * (j / 2)) (λ i g. h i (omega arith))) in
+      let q = ap (rounded (F .«round_odd»)) (weighted-ext (pos 1567) (pos 8276) (pos 10739) (pos 4697) (3 * (j / 2) + 1) (λ i g. h i (omega arith))) in
       λ i. cond (eqb (j % 2) 0) (p i) (q i)
 
 -- ---- the buffer
@@ -177,14 +179,14 @@ module _ (F : Filter) (s : List ℤ) (x : ℕ → ℤ) (m : ℕ) (b : List ℤ) 
   pub batch-out : (out : List ℤ) → filled (decimated F (sample b)) (2 * (m / 3)) out ≡ filled (decimated F (buffer F s x)) (2 * (m / 3)) out
   batch-out out = filled-ext (2 * (m / 3)) out (λ j l. decimated-ext F (m / 3) j l (λ i g. h i (omega arith)))
 
-  -- its states: four values of b from m on, and the recursion's
-  pub batch-states : (j : ℕ) (z : States) → 4 ≤ j → 4 ≤ length s
-      → filled (sample (take j (drop m b))) 4 (take 4 s ++ (with-states z (take 2 (drop 4 s)) ++ drop 2 (drop 4 s))) ≡ tabulate (λ i. buffer F s x (m + i)) 4 ++ with-states z (drop 4 s)
+  -- its states: four values of b from m on, and the recursion's, which it left in the part w
+  pub batch-states : (j : ℕ) (z : States) {w : List ℤ} → w ≡ with-states z (take 2 (drop 4 s)) → 4 ≤ j → 4 ≤ length s
+      → filled (sample (take j (drop m b))) 4 (take 4 s ++ (w ++ drop 2 (drop 4 s))) ≡ tabulate (λ i. buffer F s x (m + i)) 4 ++ with-states z (drop 4 s)
   unfolding filled sample
-  batch-states j z f g =
+  batch-states j z {w} e f g =
       ap₂ (λ (t u : List ℤ). t ++ u)
       (tabulate-ext 4 (λ i l. getD-take j (drop m b) i (pos 0) (omega arith) ∙ getD-drop m b i (pos 0) ∙ h (m + i) (omega arith)))
-      (drop-at (take 4 s) (with-states z (take 2 (drop 4 s)) ++ drop 2 (drop 4 s)) 4 (length-take-le 4 s g) ∙ with-part z (drop 4 s))
+      (drop-at (take 4 s) (w ++ drop 2 (drop 4 s)) 4 (length-take-le 4 s g) ∙ ap (λ (t : List ℤ). t ++ drop 2 (drop 4 s)) e ∙ with-part z (drop 4 s))
 
 -- ---- a frame
 

@@ -2,16 +2,15 @@
 use mir.Syntax.{w16}
 use Rattle.zint.specs.ReadLaws.{r-got}
 use Rattle.zint.specs.RuleLaws.{zneeds}
-use Rattle.silk_resampler.specs.Down23.{source-filter, rounded, even-out}
+use Rattle.silk_resampler.specs.Down23.{even-out}
 use Rattle.silk_resampler.proofs.even_output.Statement.{statement}
 use Rattle.silk_resampler.proofs.even_output.Tie as tie
 
 returns : tie.Need-returns
-unfolding source-filter rounded even-out
+unfolding even-out
 returns c = r-got w16 (c .weighted-output .ok) (c .weighted-output .ensures) .val
 
 pub even-output-spec : {M : Type 1} → statement M
 even-output-spec =
     tie.close
-    (tie.spec (λ c. search zneeds) (λ c. search zneeds) (λ c. search zneeds) (λ c. search zneeds) (λ c. search zneeds) (λ c. search zneeds)
-    (λ c. search zneeds) (λ c. search zneeds) (λ c. search zneeds) (λ c κs. search zneeds) returns)
+    (tie.spec (λ c. search zneeds) (λ c. search zneeds) (λ c. search zneeds) (λ c. search zneeds) (λ c. search zneeds) (λ c κs. search zneeds) returns)
