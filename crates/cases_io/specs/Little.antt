@@ -23,6 +23,13 @@ i16-at xs at = wrap w16 (pos (u16-at xs at))
 unfoldable pub i32-at : List ℕ → ℕ → ℤ
 i32-at xs at = wrap w32 (pos (u32-at xs at))
 
+-- number k of those of two, or of four, bytes each from `at` on
+abbrev pub i16s-at : List ℕ → ℕ → ℕ → ℤ
+i16s-at xs at k = i16-at xs (at + 2 * k)
+
+abbrev pub i32s-at : List ℕ → ℕ → ℕ → ℤ
+i32s-at xs at k = i32-at xs (at + 4 * k)
+
 -- whether the first n of ys are f 0, f 1, .., f (n - 1)
 unfoldable pub agree : (ℕ → ℤ) → List ℤ → ℕ → Bool
 agree f ys zero = true

@@ -1,4 +1,4 @@
--- Laws of little-endian numbers: past the end they are 0, so that a place may be held to the end; and one element more of a comparison.
+-- Laws of little-endian numbers: past the end they are 0, so that a place may be cut to the end; and one element more of a load and of a comparison.
 use mathlib.Core.Bool.{Bool, true, false, _&&_, and-false}
 use mathlib.Core.List.{List, [], _∷_}
 use mathlib.Core.Path.{_≡_, refl, sym, ap, ap₂, _∙_, subst}
@@ -7,7 +7,9 @@ use native.Mathlib.Decide.{decLt}
 use native.Mathlib.Numerals.{add-one}
 use native.Mathlib.Omega.{arith}
 use lib.IntN.{ℤ, pos}
-use lib.ListN.{length, getD}
+use lib.ListN.{length, getD, set, length-set}
+use Rattle.lists.specs.Fill.{filled}
+use Rattle.lists.specs.FillLaws.{filled-none, filled-turn}
 use Rattle.zint.specs.Equal.{eqZ}
 use Rattle.zint.specs.EqualLaws.{eqZ-yes, eqZ-no}
 use Rattle.zint.specs.Wrap.{wrap, modZ}
@@ -39,13 +41,28 @@ pub i32-past : (xs : List ℕ) (k : ℕ) → length xs ≤ k → i32-at xs k ≡
 unfolding i32-at wrap modZ
 i32-past xs k h = rw (u32-past xs k h)
 
--- a number at a place that is held to the end
-pub held : {A : Type 0} (z : A) (F : ℕ → A) (n : ℕ) → ((k : ℕ) → n ≤ k → F k ≡ z) → (from at j : ℕ) → from ≡ min (at + 0) n → F (from + j) ≡ F (at + j)
-held z F n past from at j e = go (decLt at n)
+-- so a number at a place that is cut to the end n is that at the place
+pub at-cut : {A : Type 0} (z : A) (F : ℕ → A) (n : ℕ) → ((k : ℕ) → n ≤ k → F k ≡ z) → (place from : ℕ) → from ≡ min place n → F from ≡ F place
+at-cut z F n past place from e = go (decLt place n)
   where
-    go : Dec (at < n) → F (from + j) ≡ F (at + j)
+    go : Dec (place < n) → F from ≡ F place
     go (yes l) = ap F (omega arith)
-    go (no g) = past (from + j) (omega arith) ∙ sym (past (at + j) (omega arith))
+    go (no g) = past from (omega arith) ∙ sym (past place (omega arith))
+
+-- ---- a loop that loads a list of numbers: out after n of them
+pub record Loaded (f : ℕ → ℤ) (before : List ℤ) (n : ℕ) (out : List ℤ) : Type 0 where
+  pub within : n ≤ length before
+  pub long : length out ≡ length before
+  pub done : out ≡ filled f n before
+
+pub loaded-none : (f : ℕ → ℤ) (l : List ℤ) → Loaded f l 0 l
+loaded-none f l = record { within = omega arith; long = refl; done = filled-none f l }
+
+pub loaded-turn : {f : ℕ → ℤ} {l : List ℤ} {n : ℕ} {out : List ℤ} {v : ℤ} → Loaded f l n out → v ≡ f n → n < length l → Loaded f l (n + 1) (set out n v)
+loaded-turn {f} {l} {n} {out} {v} p e h = record { within = omega arith; long = length-set out n v ∙ p .long; done = filled-turn f n l (p .done) e h }
+
+pub loaded-all : {f : ℕ → ℤ} {l : List ℤ} {n : ℕ} {out : List ℤ} → Loaded f l n out → length l ≤ n → out ≡ filled f (length l) l
+loaded-all {f} {l} {n} p h = let e : n ≡ length l = omega (arith, p .within) in p .done ∙ ap (λ (m : ℕ). filled f m l) e
 
 -- ---- comparison
 pub agree-none : (f : ℕ → ℤ) (ys : List ℤ) → agree f ys 0 ≡ true
@@ -68,3 +85,7 @@ agree-not f ys k (suc n) h g = by-case (λ l. agree-not f ys k n l g) (decLt k n
     by-case rec (no m) =
         let e : k ≡ n = omega arith in
         ap (λ (b : Bool). agree f ys n && b) (eqZ-no (subst (λ (j : ℕ). getD ys j (pos 0) ≡ f j → ⊥) e g)) ∙ and-false (agree f ys n)
+
+-- all that there are
+pub agree-all : (f : ℕ → ℤ) (ys : List ℤ) {n m : ℕ} → agree f ys n ≡ true → n ≡ m → true ≡ agree f ys m
+agree-all f ys p e = sym p ∙ ap (agree f ys) e

@@ -1,11 +1,11 @@
 // What a program that replays a list of cases stands on: little-endian numbers of a byte slice, comparison with them, and the lines that tell how many agree. A byte past the
 // end reads as 0, and so no place is out of range. Only `count`, `tally_of` and `report` have a `requires`: each kind has its place in both lists of counts.
 ghost use mathlib.Core.Path.{_≡_};
-ghost use Prim.Native.Nat.{ℕ, _+_, _*_, _%_, _^_, _<_, min};
+ghost use Prim.Native.Nat.{_+_, _*_, _%_, _^_, _<_, min};
 ghost use mathlib.Core.Bool.{true};
 ghost use lib.ListN.{length, getD};
 ghost use Rattle.lists.specs.Fill.{filled};
-ghost use Rattle.cases_io.specs.Little.{u16-at, u32-at, u64-at, i16-at, i32-at, agree};
+ghost use Rattle.cases_io.specs.Little.{u16-at, u32-at, u64-at, i16-at, i32-at, i16s-at, i32s-at, agree};
 ghost use Rattle.cases_io.specs.Counts.{same-settings, counted, tally-after, counted-at, sum, totals-of};
 use libc::STDOUT_FILENO;
 use pitch_settings::Settings;
@@ -26,12 +26,14 @@ pub fn room() -> [u8; 1048576]
     [0; 1048576]
 }
 
+// The byte at `at`, or 0 past the end.
 pub fn byte_at(bytes: &[u8], at: usize) -> u8
     ensures { λ r. ⌜ r ≡ getD (now (bytes .entry)) at 0 ⌝ }
 {
     if at < bytes.len() { bytes[at] } else { 0 }
 }
 
+// The number of two bytes at `at`, without sign.
 pub fn u16_at(bytes: &[u8], at: usize) -> u16
     ensures { λ r. ⌜ r ≡ u16-at (now (bytes .entry)) at ⌝ }
 {
@@ -61,12 +63,14 @@ pub fn usize_at(bytes: &[u8], at: usize) -> usize
     u32_at(bytes, at) + u32_at(bytes, at + 4) * 4294967296
 }
 
+// The number of two bytes at `at`, with its sign.
 pub fn i16_at(bytes: &[u8], at: usize) -> i16
     ensures { λ r. ⌜ r ≡ i16-at (now (bytes .entry)) at ⌝ }
 {
     as_i16(u16_at(bytes, at) as i32)
 }
 
+// The number of four bytes at `at`, with its sign.
 pub fn i32_at(bytes: &[u8], at: usize) -> i32
     ensures { λ r. ⌜ r ≡ i32-at (now (bytes .entry)) at ⌝ }
 {
@@ -87,33 +91,46 @@ pub fn skip(bytes: &[u8], at: usize, by: usize) -> usize
     at + by
 }
 
+// Number i of those of two bytes each from `at` on.
+fn nth_i16(bytes: &[u8], at: usize, i: usize) -> i16
+    requires { ⌜ 2 * i < 2 ^ 64 ⌝ }
+    ensures { λ r. ⌜ r ≡ i16s-at (now (bytes .entry)) at i ⌝ }
+{
+    i16_at(bytes, skip(bytes, at, 2 * i))
+}
+
+// Number i of those of four bytes each from `at` on.
+fn nth_i32(bytes: &[u8], at: usize, i: usize) -> i32
+    requires { ⌜ 4 * i < 2 ^ 64 ⌝ }
+    ensures { λ r. ⌜ r ≡ i32s-at (now (bytes .entry)) at i ⌝ }
+{
+    i32_at(bytes, skip(bytes, at, 4 * i))
+}
+
 // Fills out with the numbers of two bytes each from `at` on.
 pub fn load_i16s(bytes: &[u8], at: usize, out: &mut [i16])
-    ensures { λ r. ⌜ now (out .exit) ≡ filled (λ (k : ℕ). i16-at (now (bytes .entry)) (at + 2 * k)) (length (now (out .entry))) (now (out .entry)) ⌝ }
+    ensures { λ r. ⌜ now (out .exit) ≡ filled (i16s-at (now (bytes .entry)) at) (length (now (out .entry))) (now (out .entry)) ⌝ }
 {
-    let from = skip(bytes, at, 0);
     for i in 0..out.len() {
-        out[i] = i16_at(bytes, from + 2 * i);
+        out[i] = nth_i16(bytes, at, i);
     }
 }
 
 // Fills out with the numbers of four bytes each from `at` on.
 pub fn load_i32s(bytes: &[u8], at: usize, out: &mut [i32])
-    ensures { λ r. ⌜ now (out .exit) ≡ filled (λ (k : ℕ). i32-at (now (bytes .entry)) (at + 4 * k)) (length (now (out .entry))) (now (out .entry)) ⌝ }
+    ensures { λ r. ⌜ now (out .exit) ≡ filled (i32s-at (now (bytes .entry)) at) (length (now (out .entry))) (now (out .entry)) ⌝ }
 {
-    let from = skip(bytes, at, 0);
     for i in 0..out.len() {
-        out[i] = i32_at(bytes, from + 4 * i);
+        out[i] = nth_i32(bytes, at, i);
     }
 }
 
 // Whether xs are the numbers of two bytes each from `at` on.
 pub fn same_i16s(bytes: &[u8], at: usize, xs: &[i16]) -> bool
-    ensures { λ r. ⌜ r ≡ agree (λ (k : ℕ). i16-at (now (bytes .entry)) (at + 2 * k)) (now (xs .entry)) (length (now (xs .entry))) ⌝ }
+    ensures { λ r. ⌜ r ≡ agree (i16s-at (now (bytes .entry)) at) (now (xs .entry)) (length (now (xs .entry))) ⌝ }
 {
-    let from = skip(bytes, at, 0);
     for i in 0..xs.len() {
-        if xs[i] != i16_at(bytes, from + 2 * i) {
+        if xs[i] != nth_i16(bytes, at, i) {
             return false;
         }
     }
@@ -122,11 +139,10 @@ pub fn same_i16s(bytes: &[u8], at: usize, xs: &[i16]) -> bool
 
 // Whether xs are the numbers of four bytes each from `at` on.
 pub fn same_i32s(bytes: &[u8], at: usize, xs: &[i32]) -> bool
-    ensures { λ r. ⌜ r ≡ agree (λ (k : ℕ). i32-at (now (bytes .entry)) (at + 4 * k)) (now (xs .entry)) (length (now (xs .entry))) ⌝ }
+    ensures { λ r. ⌜ r ≡ agree (i32s-at (now (bytes .entry)) at) (now (xs .entry)) (length (now (xs .entry))) ⌝ }
 {
-    let from = skip(bytes, at, 0);
     for i in 0..xs.len() {
-        if xs[i] != i32_at(bytes, from + 4 * i) {
+        if xs[i] != nth_i32(bytes, at, i) {
             return false;
         }
     }
@@ -141,16 +157,16 @@ pub fn settings_at(bytes: &[u8], at: usize) -> Settings
         × (r .thres1 ≡ i32-at (now (bytes .entry)) (at + 24))
         × (r .thres2 ≡ i32-at (now (bytes .entry)) (at + 28)) ⌝ }
 {
-    let from = skip(bytes, at, 0);
     Settings {
-        rate: usize_at(bytes, from),
-        nb: usize_at(bytes, from + 8),
-        complexity: usize_at(bytes, from + 16),
-        thres1: i32_at(bytes, from + 24),
-        thres2: i32_at(bytes, from + 28),
+        rate: usize_at(bytes, at),
+        nb: usize_at(bytes, skip(bytes, at, 8)),
+        complexity: usize_at(bytes, skip(bytes, at, 16)),
+        thres1: i32_at(bytes, skip(bytes, at, 24)),
+        thres2: i32_at(bytes, skip(bytes, at, 28)),
     }
 }
 
+// Whether the two are the same settings, number by number.
 pub fn same_settings(a: Settings, b: Settings) -> bool
     ensures { λ r. ⌜ r ≡ same-settings a b ⌝ }
 {
@@ -169,6 +185,7 @@ fn counted(n: u64, counts: bool) -> u64
 }
 
 impl Tally {
+    // No case yet.
     pub fn none() -> Tally
         ensures { λ r. ⌜ (r .agreed ≡ 0) × (r .total ≡ 0) ⌝ }
     {

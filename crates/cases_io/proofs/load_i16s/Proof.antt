@@ -1,53 +1,26 @@
--- `cases_io::load_i16s` meets its contract. The invariant: out is filled below i, and as it was from there on.
-use mathlib.Core.Path.{_≡_, ap, _∙_}
-use Prim.Native.Nat.{ℕ, _+_, _*_, _≤_, _-_}
+-- `cases_io::load_i16s` meets its contract.
+use Prim.Native.Nat.{_-_}
 use native.Mathlib.Omega.{arith}
-use lib.IntN.{ℤ, pos}
-use lib.ListN.{length, length-set}
+use lib.ListN.{length}
 use mir.Syntax.{w16}
 use Rattle.zint.specs.ReadLaws.{r-got}
 use Rattle.zint.specs.RuleLaws.{zneeds}
-use Rattle.lists.specs.Fill.{filled}
-use Rattle.lists.specs.FillLaws.{filled-none, filled-turn}
-use Rattle.cases_io.specs.Little.{i16-at}
-use Rattle.cases_io.specs.LittleLaws.{i16-past, held}
+use Rattle.cases_io.specs.Little.{i16s-at}
+use Rattle.cases_io.specs.LittleLaws.{Loaded, loaded-none, loaded-turn, loaded-all}
 use Rattle.cases_io.proofs.load_i16s.Statement.{statement}
 use Rattle.cases_io.proofs.load_i16s.Tie as tie
 
 abbrev Inv-loop : tie.InvT-loop
-Inv-loop bytes at out₀ from i₀ i-end out i =
-    (i ≤ length out₀) × ((length out ≡ length out₀) × (out ≡ filled (λ (k : ℕ). i16-at bytes (at + 2 * k)) i out₀))
+Inv-loop bytes at out₀ i₀ i-end out i = Loaded (i16s-at bytes at) out₀ i out
 
 abbrev μ-loop : tie.MeasureT-loop
-μ-loop bytes at out₀ from i₀ i-end out i = length out₀ - i
-
-loop-holds : tie.Need-loop-holds Inv-loop μ-loop
-loop-holds c = (search zneeds, (search zneeds, filled-none _ _))
+μ-loop bytes at out₀ i₀ i-end out i = length out₀ - i
 
 loop-again : tie.Need-loop-again Inv-loop μ-loop
-loop-again c =
-    let s = c .before .before in
-    let k = s .before .skip in
-    let a = s .before .before .before .args in
-    let F : ℕ → ℤ = i16-at (a .bytes .now) in
-    let h = held (pos 0) F (length (a .bytes .now)) (i16-past (a .bytes .now)) (k .result) (a .at) (2 * s .loop .i) (k .ensures) in
-    let v = r-got w16 (c .i16-at .ok) (c .i16-at .ensures ∙ h) .val in (
-      omega arith,
-      (
-        simp length-set (s .loop .inv .1 .0),
-        filled-turn (λ (j : ℕ). F (a .at + 2 * j)) (s .loop .i) (a .out .now) (s .loop .inv .1 .1) v (omega arith),
-      ),
-    )
-
-returns : tie.Need-returns Inv-loop μ-loop
-returns c =
-    let s = c .before in
-    let a = s .before .before .before .args in
-    let e : s .loop .i ≡ length (a .out .now) = omega arith in
-    s .loop .inv .1 .1 ∙ ap (λ (n : ℕ). filled (λ (j : ℕ). i16-at (a .bytes .now) (a .at + 2 * j)) n (a .out .now)) e
+loop-again c = loaded-turn (c .before .before .loop .inv) (r-got w16 (c .nth-i16 .ok) (c .nth-i16 .ensures) .val) (omega arith)
 
 pub load-i16s-spec : {M : Type 1} → statement M
 load-i16s-spec =
     tie.close
-    (tie.spec Inv-loop μ-loop (λ c κs. search zneeds) loop-holds (λ c. search zneeds) (λ c. search zneeds) (λ c κs. search zneeds)
-    (λ c. search zneeds) (λ c. search zneeds) (λ c. search zneeds) (λ c. search zneeds) loop-again (λ c. search zneeds) returns)
+    (tie.spec Inv-loop μ-loop (λ c. loaded-none _ _) (λ c κs. search zneeds) (λ c. search zneeds) (λ c. search zneeds) (λ c. search zneeds) (λ c. search zneeds)
+    loop-again (λ c. search zneeds) (λ c. loaded-all (c .before .loop .inv) (omega arith)))

@@ -24,7 +24,7 @@ four c = let s = c .before .before .before .before .before .args in three (c .be
 two-same : (c : tie.Joined1) → c .if1 .if2 ≡ two c
 two-same c =
     let s = c .before .before .before .args in
-    ⊎-elim
+    ⊎-elim {C = c .if1 .if2 ≡ two c}
     (λ w. and-yes (eq-eqb (s .a .rate) (s .b .rate) (w .0 .taken)) (w .3))
     (λ w. and-no (eqb (s .a .nb) (s .b .nb)) (ne-eqb (s .a .rate) (s .b .rate) (w .0 .left)) (w .1))
     (c .if1 .came)
@@ -33,13 +33,13 @@ three-same : (c : tie.Joined2) → c .if2 .if3 ≡ three c
 three-same c =
     let s = c .before .before .before .before .args in
     let e = two-same (c .before) in
-    ⊎-elim (λ w. and-yes (sym e ∙ w .0 .taken) (w .3)) (λ w. and-no (eqb (s .a .complexity) (s .b .complexity)) (sym e ∙ w .0 .left) (w .1 ∙ e)) (c .if2 .came)
+    ⊎-elim {C = c .if2 .if3 ≡ three c} (λ w. and-yes (sym e ∙ w .0 .taken) (w .3)) (λ w. and-no (eqb (s .a .complexity) (s .b .complexity)) (sym e ∙ w .0 .left) (w .1 ∙ e)) (c .if2 .came)
 
 four-same : (c : tie.Joined3) → c .if3 .if4 ≡ four c
 four-same c =
     let s = c .before .before .before .before .before .args in
     let e = three-same (c .before) in
-    ⊎-elim (λ w. and-yes (sym e ∙ w .0 .taken) (w .5 ∙ bits-eqb (record { sfits = w .2 .given .1 .1 .1 .0 .1 }) (record { sfits = w .4 .given .1 .1 .1 .0 .1 }))) (λ w. and-no (eqZ (s .a .thres1) (s .b .thres1)) (sym e ∙ w .0 .left) (w .1 ∙ e)) (c .if3 .came)
+    ⊎-elim {C = c .if3 .if4 ≡ four c} (λ w. and-yes (sym e ∙ w .0 .taken) (w .5 ∙ bits-eqb (record { sfits = w .2 .given .1 .1 .1 .0 .1 }) (record { sfits = w .4 .given .1 .1 .1 .0 .1 }))) (λ w. and-no (eqZ (s .a .thres1) (s .b .thres1)) (sym e ∙ w .0 .left) (w .1 ∙ e)) (c .if3 .came)
 
 returns : tie.Need-returns
 unfolding same-settings
