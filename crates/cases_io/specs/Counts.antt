@@ -33,10 +33,10 @@ unfoldable pub counted-at : List ℕ → ℕ → Bool → List ℕ
 counted-at xs kind counts = set xs kind (counted counts (getD xs kind 0))
 
 -- the sum of the first n counts
-unfoldable pub sum : List ℕ → ℕ → ℕ
-sum xs zero = 0
-sum xs (suc n) = sum xs n + getD xs n 0
+unfoldable pub count-sum : List ℕ → ℕ → ℕ
+count-sum xs zero = 0
+count-sum xs (suc n) = count-sum xs n + getD xs n 0
 
 -- the sums over all kinds, each modulo 2 ^ 64
 unfoldable pub totals-of : List ℕ → List ℕ → Tally
-totals-of agreed total = tally (sum agreed (length agreed) % 2 ^ 64) (sum total (length total) % 2 ^ 64)
+totals-of agreed total = tally (count-sum agreed (length agreed) % 2 ^ 64) (count-sum total (length total) % 2 ^ 64)

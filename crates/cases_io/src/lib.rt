@@ -6,7 +6,7 @@ ghost use mathlib.Core.Bool.{true};
 ghost use lib.ListN.{length, getD};
 ghost use Rattle.lists.specs.Fill.{filled};
 ghost use Rattle.cases_io.specs.Little.{u16-at, u32-at, u64-at, i16-at, i32-at, i16s-at, i32s-at, agree};
-ghost use Rattle.cases_io.specs.Counts.{same-settings, counted, tally-after, counted-at, sum, totals-of};
+ghost use Rattle.cases_io.specs.Counts.{same-settings, counted, tally-after, counted-at, count-sum, totals-of};
 use libc::STDOUT_FILENO;
 use pitch_settings::Settings;
 use std::num::wrapping_add_u64;
@@ -227,7 +227,7 @@ pub fn count(agreed: &mut [u64], total: &mut [u64], kind: usize, agrees: bool)
 
 // The sum of the counts, modulo 2 to the 64.
 fn sum_of(xs: &[u64]) -> u64
-    ensures { λ r. ⌜ r ≡ sum (now (xs .entry)) (length (now (xs .entry))) % 2 ^ 64 ⌝ }
+    ensures { λ r. ⌜ r ≡ count-sum (now (xs .entry)) (length (now (xs .entry))) % 2 ^ 64 ⌝ }
 {
     let mut s = 0;
     for i in 0..xs.len() {

@@ -88,13 +88,13 @@ decimated F b j = cond (eqb (j % 2) 0) (even-out F b (j / 2)) (odd-out F b (j / 
 
 -- ---- one batch
 
--- the buffer: the four values that are held, then the recursion's outputs
-unfoldable pub joined : (ℕ → ℤ) → (ℕ → ℤ) → ℕ → ℤ
-joined h y k = cond (ltb k 4) (h k) (y (k - 4))
+-- the buffer: the four values of history h, then the recursion's outputs
+unfoldable pub after-history : (ℕ → ℤ) → (ℕ → ℤ) → ℕ → ℤ
+after-history h y k = cond (ltb k 4) (h k) (y (k - 4))
 
--- the buffer of a batch over the signal x, the six states s lent: four values held, and the recursion's two states
+-- the buffer of a batch over the signal x, the six states s lent: four values of history, and the recursion's two states
 unfoldable pub buffer : Filter → List ℤ → (ℕ → ℤ) → ℕ → ℤ
-buffer F s x = joined (sample s) (filtered F (minus 2797) (minus 6507) (states-of (drop 4 s)) x)
+buffer F s x = after-history (sample s) (filtered F (minus 2797) (minus 6507) (states-of (drop 4 s)) x)
 
 -- the lent states after n samples: the buffer's last four values, the recursion's states, and the rest of the list
 unfoldable pub down2-3-states : Filter → List ℤ → (ℕ → ℤ) → ℕ → List ℤ

@@ -22,7 +22,7 @@ use Rattle.silk_macros.specs.MacroLaws.{smulwb-fits}
 use Rattle.lists.specs.Fill.{tabulate, filled}
 use Rattle.lists.specs.FillLaws.{filled-all, take-filled, length-tabulate, length-filled, getD-filled, tabulate-ext, filled-ext}
 use Rattle.lists.specs.Signal.{sample}
-use Rattle.silk_resampler.specs.Down23.{States, ar2-out, feedback, first-next, ar2-states, filtered, states-of, with-states, weighted, rounded, even-out, odd-out, decimated, joined, buffer, down2-3}
+use Rattle.silk_resampler.specs.Down23.{States, ar2-out, feedback, first-next, ar2-states, filtered, states-of, with-states, weighted, rounded, even-out, odd-out, decimated, after-history, buffer, down2-3}
 use Rattle.silk_resampler.specs.declared.Filter.{Filter}
 use Rattle.silk_resampler.specs.Down2Laws.{table-fits}
 
@@ -118,17 +118,17 @@ module _ {b b′ : ℕ → ℤ} where
 
 -- ---- the buffer
 
-pub joined-held : (h y : ℕ → ℤ) (k : ℕ) → k < 4 → joined h y k ≡ h k
-unfolding joined
-joined-held h y k l = rw (lt-ltb k 4 l)
+pub history-at : (h y : ℕ → ℤ) (k : ℕ) → k < 4 → after-history h y k ≡ h k
+unfolding after-history
+history-at h y k l = rw (lt-ltb k 4 l)
 
-pub joined-new : (h y : ℕ → ℤ) (k : ℕ) → 4 ≤ k → joined h y k ≡ y (k - 4)
-unfolding joined
-joined-new h y k l = rw (le-ltb k 4 l)
+pub output-at : (h y : ℕ → ℤ) (k : ℕ) → 4 ≤ k → after-history h y k ≡ y (k - 4)
+unfolding after-history
+output-at h y k l = rw (le-ltb k 4 l)
 
 -- the buffer after a batch's recursion: l with the four held values, then the m outputs p in the part that the recursion was lent
 pub batch-at : (h y : ℕ → ℤ) (m : ℕ) (z : List ℤ) {l p : List ℤ} → 4 + m ≤ length z → l ≡ filled h 4 z → p ≡ filled y m (take (4 + m - 4) (drop 4 l))
-    → (k : ℕ) → k < 4 + m → sample (take 4 l ++ (p ++ drop (4 + m - 4) (drop 4 l))) k ≡ joined h y k
+    → (k : ℕ) → k < 4 + m → sample (take 4 l ++ (p ++ drop (4 + m - 4) (drop 4 l))) k ≡ after-history h y k
 unfolding sample
 batch-at h y m z {l} {p} r el ep k g = by (decLt k 4)
   where
@@ -144,13 +144,13 @@ batch-at h y m z {l} {p} r el ep k g = by (decLt k 4)
     room : length mid ≡ m
     room = length-take-le (4 + m - 4) (drop 4 l) (omega (arith, length-drop 4 l, long)) ∙ omega arith
 
-    by : Dec (k < 4) → sample (take 4 l ++ (p ++ rest)) k ≡ joined h y k
+    by : Dec (k < 4) → sample (take 4 l ++ (p ++ rest)) k ≡ after-history h y k
     by (yes i) =
         List·getD-append (take 4 l) (p ++ rest) (pos 0) k (omega (arith, length-take-le 4 l (omega (arith, long))))
         ∙ getD-take 4 l k (pos 0) i
         ∙ ap (λ (t : List ℤ). getD t k (pos 0)) el
         ∙ getD-filled h 4 z k (pos 0) i
-        ∙ sym (joined-held h y k i)
+        ∙ sym (history-at h y k i)
     by (no i) =
         let e : k ≡ length (take 4 l) + (k - 4) = omega (arith, length-take-le 4 l (omega (arith, long))) in
         ap (λ (j : ℕ). getD (take 4 l ++ (p ++ rest)) j (pos 0)) e
@@ -158,7 +158,7 @@ batch-at h y m z {l} {p} r el ep k g = by (decLt k 4)
         ∙ List·getD-append p rest (pos 0) (k - 4) (omega (arith, ap length ep, length-filled y m mid (omega (arith, room)), room))
         ∙ ap (λ (t : List ℤ). getD t (k - 4) (pos 0)) ep
         ∙ getD-filled y m mid (k - 4) (pos 0) (omega arith)
-        ∙ sym (joined-new h y k (omega arith))
+        ∙ sym (output-at h y k (omega arith))
 
 -- the recursion's states, in the part of two places that it was lent
 pub states-part : (l : List ℤ) → states-of (take 2 l) ≡ states-of l

@@ -1,5 +1,5 @@
 -- An integer as the difference of two naturals, `up z - dn z`, one of which is 0. An order or an equation of integers is one of naturals
--- (`up a + dn b` against `up b + dn a`), which `omega` proves. `Ex` writes an integer expression; `plus e` and `minus e` are two naturals whose
+-- (`up a + dn b` against `up b + dn a`), which `omega` proves. `Ex` writes an integer expression; `pos-part e` and `neg-part e` are two naturals whose
 -- difference is its value, by +, * alone, so that `omega` sees the variables' `up` and `dn` and nothing else.
 use mathlib.Core.Path.{_≡_, refl, ap, subst}
 use mathlib.Core.Bool.{Bool, true, false, not, cond}
@@ -145,53 +145,53 @@ val (a ⊖ b) = val a -ℤ val b
 val (a ⊗ b) = val a *ℤ val b
 
 abbrev mutual
-  pub plus : Ex → ℕ
-  plus (v z) = up z
-  plus (n k) = k
-  plus (a ⊕ b) = plus a + plus b
-  plus (a ⊖ b) = plus a + minus b
-  plus (a ⊗ b) = plus a * plus b + minus a * minus b
+  pub pos-part : Ex → ℕ
+  pos-part (v z) = up z
+  pos-part (n k) = k
+  pos-part (a ⊕ b) = pos-part a + pos-part b
+  pos-part (a ⊖ b) = pos-part a + neg-part b
+  pos-part (a ⊗ b) = pos-part a * pos-part b + neg-part a * neg-part b
 
-  pub minus : Ex → ℕ
-  minus (v z) = dn z
-  minus (n k) = 0
-  minus (a ⊕ b) = minus a + minus b
-  minus (a ⊖ b) = minus a + plus b
-  minus (a ⊗ b) = plus a * minus b + minus a * plus b
+  pub neg-part : Ex → ℕ
+  neg-part (v z) = dn z
+  neg-part (n k) = 0
+  neg-part (a ⊕ b) = neg-part a + neg-part b
+  neg-part (a ⊖ b) = neg-part a + pos-part b
+  neg-part (a ⊗ b) = pos-part a * neg-part b + neg-part a * pos-part b
 
 mul-sound : (x y : ℤ) (p q r s : ℕ) → up x + q ≡ p + dn x → up y + s ≡ r + dn y
     → up (x *ℤ y) + (p * s + q * r) ≡ p * r + q * s + dn (x *ℤ y)
 mul-sound x y p q r s A B =
     omega (arith, mul-ud x y, ap (λ (t : ℕ). t * up y) A, ap (λ (t : ℕ). t * dn y) A, ap (λ (t : ℕ). p * t) B, ap (λ (t : ℕ). q * t) B)
 
-pub sound : (e : Ex) → up (val e) + minus e ≡ plus e + dn (val e)
+pub sound : (e : Ex) → up (val e) + neg-part e ≡ pos-part e + dn (val e)
 sound (v z) = refl
 sound (n k) = refl
 sound (a ⊕ b) = omega (arith, add-ud (val a) (val b), sound a, sound b)
 sound (a ⊖ b) = omega (arith, sub-ud′ (val a) (val b), sound a, sound b)
-sound (a ⊗ b) = mul-sound (val a) (val b) (plus a) (minus a) (plus b) (minus b) (sound a) (sound b)
+sound (a ⊗ b) = mul-sound (val a) (val b) (pos-part a) (neg-part a) (pos-part b) (neg-part b) (sound a) (sound b)
 
--- the value of an expression, from what `omega` shows of `plus` and `minus`
-pub ring : (a b : Ex) → plus a + minus b ≡ plus b + minus a → val a ≡ val b
+-- the value of an expression, from what `omega` shows of `pos-part` and `neg-part`
+pub ring : (a b : Ex) → pos-part a + neg-part b ≡ pos-part b + neg-part a → val a ≡ val b
 ring a b h = eq-of (val a) (val b) (omega (arith, sound a, sound b))
 
-pub le-by : (a b : Ex) → plus a + minus b ≤ plus b + minus a → val a ≤ℤ val b
+pub le-by : (a b : Ex) → pos-part a + neg-part b ≤ pos-part b + neg-part a → val a ≤ℤ val b
 le-by a b h = le-of (val a) (val b) (omega (arith, sound a, sound b))
 
-pub lt-by : (a b : Ex) → plus a + minus b < plus b + minus a → val a <ℤ val b
+pub lt-by : (a b : Ex) → pos-part a + neg-part b < pos-part b + neg-part a → val a <ℤ val b
 lt-by a b h = lt-of (val a) (val b) (omega (arith, sound a, sound b))
 
-pub sfits-by : (w : Width) (e : Ex) → plus e < 2 ^ hbits w + minus e → minus e ≤ 2 ^ hbits w + plus e → SFits w (val e)
+pub sfits-by : (w : Width) (e : Ex) → pos-part e < 2 ^ hbits w + neg-part e → neg-part e ≤ 2 ^ hbits w + pos-part e → SFits w (val e)
 sfits-by w e h k = sfits-of-ud w (val e) (omega (arith, sound e)) (omega (arith, sound e))
 
 -- and what a fact of an expression's value says of them, for `omega`'s list
-pub eq-in : (a b : Ex) → val a ≡ val b → plus a + minus b ≡ plus b + minus a
+pub eq-in : (a b : Ex) → val a ≡ val b → pos-part a + neg-part b ≡ pos-part b + neg-part a
 eq-in a b e = omega (arith, of-eq (val a) (val b) e, sound a, sound b)
 
-pub le-in : (a b : Ex) → val a ≤ℤ val b → plus a + minus b ≤ plus b + minus a
+pub le-in : (a b : Ex) → val a ≤ℤ val b → pos-part a + neg-part b ≤ pos-part b + neg-part a
 le-in a b e = omega (arith, of-le e, sound a, sound b)
 
-pub lt-in : (a b : Ex) → val a <ℤ val b → plus a + minus b < plus b + minus a
+pub lt-in : (a b : Ex) → val a <ℤ val b → pos-part a + neg-part b < pos-part b + neg-part a
 lt-in a b e = omega (arith, of-lt e, sound a, sound b)
 
 -- the rules by which `omega` reads facts of ℤ that are in reach: `omega zarith`

@@ -37,11 +37,11 @@ pub <ℤ-trans : {a b c : ℤ} → a <ℤ b → b <ℤ c → a <ℤ c
 <ℤ-trans h k = <ℤ-≤ℤ-trans h (<ℤ-weak k)
 
 -- a test on two words that went through their bits, said of the words: the equations are those of `back16` and `back32`, or an invariant's
-pub lt-by : {a a′ b b′ : ℤ} → a′ ≡ a → b′ ≡ b → ltZ a′ b′ ≡ true → a <ℤ b
-lt-by {a} {a′} {b} {b′} p q e = lt-true a b (via-lt a′ b′ a b true e p q)
+pub lt-read : {a a′ b b′ : ℤ} → a′ ≡ a → b′ ≡ b → ltZ a′ b′ ≡ true → a <ℤ b
+lt-read {a} {a′} {b} {b′} p q e = lt-true a b (via-lt a′ b′ a b true e p q)
 
-pub not-lt-by : {a a′ b b′ : ℤ} → a′ ≡ a → b′ ≡ b → ltZ a′ b′ ≡ false → b ≤ℤ a
-not-lt-by {a} {a′} {b} {b′} p q e = lt-false a b (via-lt a′ b′ a b false e p q)
+pub not-lt-read : {a a′ b b′ : ℤ} → a′ ≡ a → b′ ≡ b → ltZ a′ b′ ≡ false → b ≤ℤ a
+not-lt-read {a} {a′} {b} {b′} p q e = lt-false a b (via-lt a′ b′ a b false e p q)
 
 -- a test from a fact
 is-true : (t : Bool) → T t → t ≡ true
@@ -78,8 +78,8 @@ pub ltZ-by : {a a′ b b′ : ℤ} {t : Bool} → a′ ≡ a → b′ ≡ b → 
 ltZ-by {a} {a′} {b} {b′} {t} p q e = via-lt a′ b′ a b t e p q
 
 -- a test `a <= b`
-pub le-by : {a a′ b b′ : ℤ} → a′ ≡ a → b′ ≡ b → leZ a′ b′ ≡ true → a ≤ℤ b
-le-by {a} {a′} {b} {b′} p q e = le-true a b (via-le a′ b′ a b true e p q)
+pub le-read : {a a′ b b′ : ℤ} → a′ ≡ a → b′ ≡ b → leZ a′ b′ ≡ true → a ≤ℤ b
+le-read {a} {a′} {b} {b′} p q e = le-true a b (via-le a′ b′ a b true e p q)
 
-pub not-le-by : {a a′ b b′ : ℤ} → a′ ≡ a → b′ ≡ b → leZ a′ b′ ≡ false → b <ℤ a
-not-le-by {a} {a′} {b} {b′} p q e = le-false a b (via-le a′ b′ a b false e p q)
+pub not-le-read : {a a′ b b′ : ℤ} → a′ ≡ a → b′ ≡ b → leZ a′ b′ ≡ false → b <ℤ a
+not-le-read {a} {a′} {b} {b′} p q e = le-false a b (via-le a′ b′ a b false e p q)

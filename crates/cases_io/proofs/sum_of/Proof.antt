@@ -4,13 +4,13 @@ use Prim.Native.Nat.{ℕ, _≤_, _-_, _%_, _^_}
 use native.Mathlib.Omega.{arith}
 use borrow.Author.Needs.{needs}
 use lib.ListN.{length}
-use Rattle.cases_io.specs.Counts.{sum}
+use Rattle.cases_io.specs.Counts.{count-sum}
 use Rattle.cases_io.specs.CountsLaws.{sum-none, sum-next}
 use Rattle.cases_io.proofs.sum_of.Statement.{statement}
 use Rattle.cases_io.proofs.sum_of.Tie as tie
 
 abbrev Inv-loop : tie.InvT-loop
-Inv-loop xs s₀ i₀ i-end s i = (i ≤ length xs) × (s ≡ sum xs i % 2 ^ 64)
+Inv-loop xs s₀ i₀ i-end s i = (i ≤ length xs) × (s ≡ count-sum xs i % 2 ^ 64)
 
 abbrev μ-loop : tie.MeasureT-loop
 μ-loop xs s₀ i₀ i-end s i = length xs - i
@@ -27,7 +27,7 @@ returns : tie.Need-returns Inv-loop μ-loop
 returns c =
     let l = c .before in
     let e : l .loop .i ≡ length (l .before .before .args .xs .now) = omega arith in
-    l .loop .inv .1 ∙ ap (λ (n : ℕ). sum (l .before .before .args .xs .now) n % 2 ^ 64) e
+    l .loop .inv .1 ∙ ap (λ (n : ℕ). count-sum (l .before .before .args .xs .now) n % 2 ^ 64) e
 
 pub sum-of-spec : {M : Type 1} → statement M
 sum-of-spec =

@@ -8,7 +8,7 @@ use lib.ListN.{getD}
 use lib.Signed.{_<ℤ_}
 use mir.Syntax.{w16, w32}
 use mir.Val.{toZ, ofZ}
-use Rattle.zint.specs.OrderLaws.{le-by, not-le-by}
+use Rattle.zint.specs.OrderLaws.{le-read, not-le-read}
 use Rattle.zint.specs.ReadLaws.{r-var}
 use Rattle.lists.specs.Signal.{sample}
 use Rattle.stage1.specs.KeptLaws.{run-is}
@@ -32,7 +32,7 @@ returns c =
     let a = s .before .args in
     let x : toZ w32 (ofZ w32 (toZ w16 (ofZ w16 (getD (a .c-combined .now) (s .loop .i) (pos 0))))) ≡ getD (a .c-combined .now) (s .loop .i) (pos 0) = search zneeds in
     let t = r-var (s .before .fits .threshold) .val in
-    run-is (a .c-combined .now) (a .n) (a .threshold) (s .loop .i) (omega arith) (λ q h. subst (λ (z : ℤ). z <ℤ sample (a .c-combined .now) q) t (s .loop .inv .1 q h)) (λ h. le-by x t (c .if1 .taken))
+    run-is (a .c-combined .now) (a .n) (a .threshold) (s .loop .i) (omega arith) (λ q h. subst (λ (z : ℤ). z <ℤ sample (a .c-combined .now) q) t (s .loop .inv .1 q h)) (λ h. le-read x t (c .if1 .taken))
 
 loop-again : tie.Need-loop-again Inv-loop μ-loop
 unfolding sample
@@ -40,7 +40,7 @@ loop-again c =
     let s = c .before .before .before in
     let a = s .before .args in
     let x : toZ w32 (ofZ w32 (toZ w16 (ofZ w16 (getD (a .c-combined .now) (s .loop .i) (pos 0))))) ≡ getD (a .c-combined .now) (s .loop .i) (pos 0) = search zneeds in
-    (omega arith, below-more (λ (q : ℕ). toZ w32 (ofZ w32 (a .threshold)) <ℤ sample (a .c-combined .now) q) (s .loop .i) (s .loop .inv .1) (not-le-by x refl (c .if1 .left)))
+    (omega arith, below-more (λ (q : ℕ). toZ w32 (ofZ w32 (a .threshold)) <ℤ sample (a .c-combined .now) q) (s .loop .i) (s .loop .inv .1) (not-le-read x refl (c .if1 .left)))
 
 returns-2 : tie.Need-returns-2 Inv-loop μ-loop
 returns-2 c =
