@@ -5,7 +5,7 @@ use mathlib.Core.Path.{_≡_}
 use mathlib.Core.Bool.{Bool, cond}
 use mathlib.Core.List.{List, [], _∷_}
 use mathlib.Core.Logic.{_⊎_}
-use Prim.Native.Nat.{ℕ, _+_, _-_, _*_, _/_, _≤_, _<_}
+use Prim.Native.Nat.{ℕ, _+_, _-_, _*_, _/_, _%_, _≤_, _<_}
 use lib.Dec.{eqb}
 use lib.IntN.{ℤ, pos, _+ℤ_, _-ℤ_, _*ℤ_}
 use lib.ListN.{length, drop, replicate}
@@ -18,7 +18,7 @@ use Rattle.best.specs.Best.{some, Place, none, at, first-from}
 use Rattle.silk_macros.specs.Macros.{smulwb, smlawb}
 use Rattle.silk_macros.specs.Divide.{quotient, by-zero, low16-of}
 use Rattle.silk_macros.specs.declared.Quotient.{Quotient}
-use Rattle.silk_sigproc.specs.Dot.{dot}
+use Rattle.silk_sigproc.specs.Dot.{dot, energy-sum}
 use Rattle.silk_sort.specs.Rank.{ranked}
 use Rattle.stage1.specs.declared.Screen.{Screen}
 use Rattle.stage1.specs.declared.Screen.the-variants.{ZeroDivisor, Unvoiced, Goes}
@@ -30,24 +30,49 @@ use Rattle.stage1.specs.declared.Stage1.{Stage1}
 unfoldable pub target1 : ℕ → ℕ
 target1 h = 80 + 40 * h
 
--- the cross-correlation, wrapped to 32 bits
-unfoldable pub cross1 : List ℤ → ℕ → ℕ → ℤ
-cross1 f h d = wrap w32 (dot (drop (target1 h) f) (drop (target1 h - d) f) 40)
+-- ---- the sums in whole numbers
 
--- the divisor: the two energies and 40 * 4000, wrapped to 32 bits
-unfoldable pub norm1 : List ℤ → ℕ → ℕ → ℤ
-norm1 f h d = wrap w32 (dot (drop (target1 h) f) (drop (target1 h) f) 40 +ℤ dot (drop (target1 h - d) f) (drop (target1 h - d) f) 40 +ℤ pos 160000)
+-- the products of the half-frame's samples with those d earlier
+unfoldable pub cross-sum1 : List ℤ → ℕ → ℕ → ℤ
+cross-sum1 f h d = dot (drop (target1 h) f) (drop (target1 h - d) f) 40
+
+-- the energy of the half-frame, and that of the samples d earlier
+unfoldable pub target-energy1 : List ℤ → ℕ → ℤ
+target-energy1 f h = energy-sum f (target1 h) 40
+
+unfoldable pub basis-energy1 : List ℤ → ℕ → ℕ → ℤ
+basis-energy1 f h d = energy-sum f (target1 h - d) 40
+
+-- the two energies and 40 * 4000
+unfoldable pub divisor-sum1 : List ℤ → ℕ → ℕ → ℤ
+divisor-sum1 f h d = target-energy1 f h +ℤ basis-energy1 f h d +ℤ pos 160000
+
+-- ---- what is divided: the sums, wrapped to 32 bits
+
+unfoldable pub cross1 : List ℤ → ℕ → ℕ → ℤ
+cross1 f h d = wrap w32 (cross-sum1 f h d)
+
+unfoldable pub divisor1 : List ℤ → ℕ → ℕ → ℤ
+divisor1 f h d = wrap w32 (divisor-sum1 f h d)
 
 -- the quotient at Q14, or a zero divisor
 unfoldable pub quotient1 : List ℤ → ℕ → ℕ → Quotient
-quotient1 f h d = quotient (cross1 f h d) (norm1 f h d) (pos 14)
+quotient1 f h d = quotient (cross1 f h d) (divisor1 f h d) (pos 14)
 
--- "a quotient that is reached .. has divisor zero": every half-frame and lag is reached, and i stands for the lag 8 + i
-unfoldable pub zero-in : List ℤ → ℕ → Bool
-zero-in f h = some 65 (λ i. by-zero (quotient1 f h (8 + i)))
+-- ---- the divisors by number, in the source's order: half-frames, and in each the lags 8 to 72 rising. All of them are reached
 
+unfoldable pub divisors1 : ℕ → ℕ
+divisors1 nb = nb / 2 * 65
+
+unfoldable pub half-no : ℕ → ℕ
+half-no p = p / 65
+
+unfoldable pub lag-no1 : ℕ → ℕ
+lag-no1 p = 8 + p % 65
+
+-- "a quotient that is reached .. has divisor zero"
 unfoldable pub zero1 : List ℤ → ℕ → Bool
-zero1 f nb = some (nb / 2) (zero-in f)
+zero1 f nb = some (divisors1 nb) (λ p. by-zero (quotient1 f (half-no p) (lag-no1 p)))
 
 -- ---- the scores: "steps not named here, the scores and biases among them, are the source's"
 
