@@ -15,7 +15,7 @@ use Rattle.stage1.specs.declared.Screen.the-variants.{ZeroDivisor, Unvoi
 use Rattle.stage1.specs.declared.Stage1.{Stage1}
 use Rattle.stage1.specs.Stage1.{zero1, scores1, lag-at, score-at, kept-count, stopped, screened, stage1, screen-numbers, screen-number, kept}
 use Rattle.stage1.specs.Meaning.{Lag, place1}
-use Rattle.stage1.specs.KeptLaws.{looked-few}
+use Rattle.stage1.specs.KeptLaws.{search-length-few}
 use Rattle.stage1.specs.PlaceLaws.{lag-is, place-at, scan}
 
 -- the answer's way in numbers
@@ -48,7 +48,7 @@ module _ (f : List ℤ) (nb cx : ℕ) (thres1 : ℤ) where
 
   module _ (small : cx < 3) where
     few : n ≤ 8
-    few = omega (arith, scan f nb cx thres1 .within, looked-few small)
+    few = omega (arith, scan f nb cx thres1 .within, search-length-few small)
 
     pub kept-few : length (kept f nb cx thres1) ≤ 8
     kept-few = omega (arith, length-kept, few)

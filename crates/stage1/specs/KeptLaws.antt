@@ -1,4 +1,4 @@
--- Laws of stage 1's choice of the lags that go on, and what the functions that choose them say to one another.
+-- Laws of stage 1's choice of the lags that go on.
 use mathlib.Core.Path.{_≡_, refl, sym, ap, ap₂, _∙_, subst}
 use mathlib.Core.Bool.{Bool, true, false, cond}
 use mathlib.Core.List.{List}
@@ -22,20 +22,7 @@ use Rattle.stage1.specs.declared.Stage1.{Stage1}
 use Rattle.silk_sort.specs.Rank.{ranked}
 use Rattle.silk_sort.specs.RankLaws.{ranked-below}
 use Rattle.stage1.specs.Stage1.{zero1, score1, scores1, lag-at, score-at, search-length, threshold1, place-or, kept-count, stopped, screened, stage1}
-
--- how many of the first k scores lie, from the front on, above the threshold
-unfoldable pub run : List ℤ → ℕ → ℤ → ℕ
-run c k threshold = place-or k (first-from 0 k (λ r. leZ (sample c r) threshold))
-
--- the answer from the sorted scores c and their indices d, of which the first k are looked at
-unfoldable pub selected : List ℤ → List ℕ → ℕ → ℤ → Stage1
-selected c d k thres1 =
-    cond (ltZ (sample c 0) (pos 3277)) (stopped Unvoiced)
-    (record {
-      screen = Goes;
-      lags = filled (λ i. 8 + getD d i 0) (run c k (smulwb thres1 (sample c 0))) (replicate 8 0);
-      count = run c k (smulwb thres1 (sample c 0));
-    })
+use Rattle.stage1.specs.Steps.{count-above, selected}
 
 -- p is the first number from i up to e that passes the test, or e where none does
 pub record First (i e : ℕ) (t : ℕ → Bool) (p : ℕ) : Type 0 where
@@ -63,17 +50,17 @@ first-of i (suc k) t = by (t i) refl (first-of (suc i) k t)
 pub first-is : (k : ℕ) (t : ℕ → Bool) → First 0 k t (place-or k (first-from 0 k t))
 first-is k t = let z : 0 + k ≡ k = omega arith in subst (λ (x : ℕ). First 0 x t (place-or x (first-from 0 k t))) z (first-of 0 k t)
 
-pub run-is : (c : List ℤ) (k : ℕ) (threshold : ℤ) (p : ℕ) → p ≤ k → ((q : ℕ) → q < p → threshold <ℤ sample c q) → (p < k → sample c p ≤ℤ threshold) → p ≡ run c k threshold
-unfolding run place-or
-run-is c k threshold p l f e = by (decLt p k)
+pub count-above-is : (c : List ℤ) (k : ℕ) (threshold : ℤ) (p : ℕ) → p ≤ k → ((q : ℕ) → q < p → threshold <ℤ sample c q) → (p < k → sample c p ≤ℤ threshold) → p ≡ count-above c k threshold
+unfolding count-above place-or
+count-above-is c k threshold p l f e = by (decLt p k)
   where
     by : Dec (p < k) → p ≡ place-or k (first-from 0 k (λ r. leZ (sample c r) threshold))
     by (yes h) = sym (ap (place-or k) (first-at 0 k (λ r. leZ (sample c r) threshold) p (omega arith) (omega arith) (le-yes (e h)) (λ q a b. le-no (f q b))))
     by (no h) = let d : p ≡ k = omega arith in d ∙ sym (ap (place-or k) (first-none 0 k (λ r. leZ (sample c r) threshold) (λ q a b. le-no (f q (omega arith)))))
 
-pub run-le : (c : List ℤ) (k : ℕ) (threshold : ℤ) → run c k threshold ≤ k
-unfolding run
-run-le c k threshold = first-is k (λ r. leZ (sample c r) threshold) .within
+pub count-above-le : (c : List ℤ) (k : ℕ) (threshold : ℤ) → count-above c k threshold ≤ k
+unfolding count-above
+count-above-le c k threshold = first-is k (λ r. leZ (sample c r) threshold) .within
 
 -- the two answers
 module _ (c : List ℤ) (d : List ℕ) (k : ℕ) (thres1 : ℤ) where
@@ -84,27 +71,27 @@ module _ (c : List ℤ) (d : List ℕ) (k : ℕ) (thres1 : ℤ) where
   lags-to r = filled (λ i. 8 + getD d i 0) r (replicate 8 0)
 
   abbrev either : Bool → Stage1
-  either t = cond t (stopped Unvoiced) (goes (run c k (smulwb thres1 (sample c 0))) (lags-to (run c k (smulwb thres1 (sample c 0)))))
+  either t = cond t (stopped Unvoiced) (goes (count-above c k (smulwb thres1 (sample c 0))) (lags-to (count-above c k (smulwb thres1 (sample c 0)))))
 
   pub selected-low : ltZ (sample c 0) (pos 3277) ≡ true → stopped Unvoiced ≡ selected c d k thres1
   unfolding selected
   selected-low e = sym (ap either e)
 
-  pub selected-high : (r : ℕ) (l : List ℕ) → ltZ (sample c 0) (pos 3277) ≡ false → r ≡ run c k (smulwb thres1 (sample c 0)) → l ≡ filled (λ i. 8 + getD d i 0) r (replicate 8 0)
+  pub selected-high : (r : ℕ) (l : List ℕ) → ltZ (sample c 0) (pos 3277) ≡ false → r ≡ count-above c k (smulwb thres1 (sample c 0)) → l ≡ filled (λ i. 8 + getD d i 0) r (replicate 8 0)
       → record { screen = Goes; lags = l; count = r } ≡ selected c d k thres1
   unfolding selected
   selected-high r l e er el = ap₂ goes er (el ∙ ap lags-to er) ∙ sym (ap either e)
 
 -- ---- the answer, from the arrays that the sort leaves
 
--- at least one place is looked at, and at most eight
-pub looked-some : (cx : ℕ) → 0 < search-length cx
+-- at least one place is searched, and at most eight
+pub search-length-some : (cx : ℕ) → 0 < search-length cx
 unfolding search-length
-looked-some cx = omega arith
+search-length-some cx = omega arith
 
-pub looked-few : {cx : ℕ} → cx < 3 → search-length cx ≤ 8
+pub search-length-few : {cx : ℕ} → cx < 3 → search-length cx ≤ 8
 unfolding search-length
-looked-few small = omega arith
+search-length-few small = omega arith
 
 -- tests that agree have the same first number
 first-ext : (i k : ℕ) (t u : ℕ → Bool) → ((q : ℕ) → i ≤ q → q < i + k → t q ≡ u q) → first-from i k t ≡ first-from i k u
@@ -161,21 +148,21 @@ module _ (f : List ℤ) (nb : ℕ) (c a : List ℤ) (d : List ℕ) (k : ℕ) (ec
   indices-low i h = omega (arith, index-is i h, ranked-below xs i (omega (arith, length-scores f nb)), length-scores f nb)
 
   module _ (cx : ℕ) (thres1 : ℤ) (hp : 0 < k) (lk : k ≡ search-length cx) where
-    run-is-count : run a k (smulwb thres1 (sample a 0)) ≡ kept-count xs cx thres1
-    unfolding run kept-count threshold1
-    run-is-count =
+    count-is : count-above a k (smulwb thres1 (sample a 0)) ≡ kept-count xs cx thres1
+    unfolding count-above kept-count threshold1
+    count-is =
         ap (place-or k) (first-ext 0 k _ (λ r. leZ (score-at xs r) (smulwb thres1 (score-at xs 0)))
         (λ q l m. ap₂ (λ (x y : ℤ). leZ x (smulwb thres1 y)) (score-is q (omega arith)) (score-is 0 hp)))
         ∙ ap (λ (m : ℕ). place-or m (first-from 0 m (λ r. leZ (score-at xs r) (smulwb thres1 (score-at xs 0))))) lk
 
-    lags-are : filled (λ i. 8 + getD d i 0) (run a k (smulwb thres1 (sample a 0))) (replicate 8 0) ≡ filled (lag-at xs) (kept-count xs cx thres1) (replicate 8 0)
+    lags-are : filled (λ i. 8 + getD d i 0) (count-above a k (smulwb thres1 (sample a 0))) (replicate 8 0) ≡ filled (lag-at xs) (kept-count xs cx thres1) (replicate 8 0)
     unfolding lag-at
     lags-are =
-        filled-ext (run a k (smulwb thres1 (sample a 0))) (replicate 8 0) (λ i h. ap (λ (m : ℕ). 8 + m) (index-is i (omega (arith, run-le a k (smulwb thres1 (sample a 0))))))
-        ∙ ap (λ (m : ℕ). filled (λ r. 8 + ranked xs r) m (replicate 8 0)) run-is-count
+        filled-ext (count-above a k (smulwb thres1 (sample a 0))) (replicate 8 0) (λ i h. ap (λ (m : ℕ). 8 + m) (index-is i (omega (arith, count-above-le a k (smulwb thres1 (sample a 0))))))
+        ∙ ap (λ (m : ℕ). filled (λ r. 8 + ranked xs r) m (replicate 8 0)) count-is
 
     pub stage1-goes : zero1 f nb ≡ false → selected a d k thres1 ≡ stage1 f nb cx thres1
     unfolding selected stage1 screened
     stage1-goes z =
-        (λ t. cond (ltZ (score-is 0 hp t) (pos 3277)) (stopped Unvoiced) (record { screen = Goes; lags = lags-are t; count = run-is-count t }))
+        (λ t. cond (ltZ (score-is 0 hp t) (pos 3277)) (stopped Unvoiced) (record { screen = Goes; lags = lags-are t; count = count-is t }))
         ∙ sym (ap (λ (t : Bool). cond t (stopped ZeroDivisor) (screened (scores1 f nb) cx thres1)) z)

@@ -1,6 +1,7 @@
--- Stage 1 of the pitch analyser. Definitions: `Stage1`; the answer in words: `Meaning`, shown in `MeaningLaws`; what callers use: `AnswerLaws`; the others are laws.
+-- Stage 1 of the pitch analyser. Definitions: `Stage1`; the answer in words: `Meaning`, shown in `MeaningLaws`; between the functions: `Steps`; what callers use: `AnswerLaws`.
 pub mod Stage1
 pub mod Meaning
+pub mod Steps
 pub mod ScoreLaws
 pub mod KeptLaws
 pub mod PlaceLaws

@@ -12,7 +12,7 @@ use Rattle.silk_sort.specs.Rank.{rank}
 use Rattle.stage1.specs.declared.Screen.{Screen}
 use Rattle.stage1.specs.declared.Screen.the-variants.{ZeroDivisor, Unvoiced, Goes}
 use Rattle.stage1.specs.declared.Stage1.{Stage1}
-use Rattle.stage1.specs.Stage1.{norm1, score1, scores1}
+use Rattle.stage1.specs.Stage1.{divisor1, score1, scores1}
 
 -- "lags 8 to 72"
 pub record Lag (d : ℕ) : Type 0 where
@@ -24,7 +24,7 @@ module _ (f : List ℤ) (nb : ℕ) where
   pub record ZeroReached (h d : ℕ) : Type 0 where
     pub half : h < nb / 2
     pub lag : Lag d
-    pub no-divisor : norm1 f h d ≡ pos 0
+    pub no-divisor : divisor1 f h d ≡ pos 0
 
   -- lag e ranks before lag d: it scores higher, or the same and is smaller
   abbrev pub RanksBefore : ℕ → ℕ → Type 0

@@ -26,8 +26,10 @@ use Rattle.silk_sort.specs.PlaceLaws.{Before, precedes-yes, precedes-true}
 use Rattle.stage1.specs.declared.Screen.{Screen}
 use Rattle.stage1.specs.declared.Screen.the-variants.{ZeroDivisor, Unvoiced, Goes}
 use Rattle.stage1.specs.declared.Stage1.{Stage1}
-use Rattle.stage1.specs.Stage1.{cross1, norm1, quotient1, zero-in, zero1, score1, scores1, lag-at, score-at, search-length, threshold1, kept-count, stopped, screened, stage1, Handed1}
-use Rattle.stage1.specs.KeptLaws.{First, looked-few}
+use Rattle.stage1.specs.Stage1.{cross1, divisor1, quotient1, zero1, score1, scores1, lag-at, score-at, search-length, threshold1, kept-count, stopped, screened, stage1, Handed1}
+use Rattle.stage1.specs.Steps.{zero-in}
+use Rattle.stage1.specs.ScoreLaws.{zero1-halves}
+use Rattle.stage1.specs.KeptLaws.{First, search-length-few}
 use Rattle.stage1.specs.PlaceLaws.{below, lag-score, lag-is, at-score, place-at, lag-of, one-place, falls, scan}
 use Rattle.stage1.specs.Meaning.{Lag, ZeroReached, RanksBefore, place1, Top, GoesOn, Listed, Said, Meaning}
 
@@ -72,9 +74,9 @@ module _ (f : List ℤ) (nb : ℕ) where
 
 module _ (f : List ℤ) (nb : ℕ) where
   zero-words : zero1 f nb ≡ true → (h : ℕ) × (d : ℕ) × ZeroReached f nb h d
-  unfolding zero1 zero-in quotient1
+  unfolding zero-in quotient1
   zero-words e =
-      let p = some-find (nb / 2) (zero-in f) e in
+      let p = some-find (nb / 2) (zero-in f) (sym (zero1-halves f nb) ∙ e) in
       let q = some-find 65 (λ i. by-zero (quotient1 f (p .0) (8 + i))) (p .2) in
       let l = q .1 in (
         p .0,
@@ -82,17 +84,18 @@ module _ (f : List ℤ) (nb : ℕ) where
         record {
           half = p .1;
           lag = record { at-least = omega arith; at-most = omega arith };
-          no-divisor = eqZ-true _ _ (sym (by-zero-is (cross1 f (p .0) (8 + q .0)) (norm1 f (p .0) (8 + q .0)) (pos 14)) ∙ q .2);
+          no-divisor = eqZ-true _ _ (sym (by-zero-is (cross1 f (p .0) (8 + q .0)) (divisor1 f (p .0) (8 + q .0)) (pos 14)) ∙ q .2);
         },
       )
 
   zero-of : (h d : ℕ) → ZeroReached f nb h d → zero1 f nb ≡ true
-  unfolding zero1 zero-in quotient1
+  unfolding zero-in quotient1
   zero-of h d z =
       let e : 8 + (d - 8) ≡ d = omega (arith, z .lag .at-least) in
-      some-true (nb / 2) (zero-in f) h (z .half)
+      zero1-halves f nb
+      ∙ some-true (nb / 2) (zero-in f) h (z .half)
       (some-true 65 (λ i. by-zero (quotient1 f h (8 + i))) (d - 8) (omega (arith, z .lag .at-most))
-      (ap (λ (m : ℕ). by-zero (quotient1 f h m)) e ∙ by-zero-is (cross1 f h d) (norm1 f h d) (pos 14) ∙ eqZ-yes (z .no-divisor)))
+      (ap (λ (m : ℕ). by-zero (quotient1 f h m)) e ∙ by-zero-is (cross1 f h d) (divisor1 f h d) (pos 14) ∙ eqZ-yes (z .no-divisor)))
 
   no-zero : zero1 f nb ≡ false → (h d : ℕ) → ZeroReached f nb h d → ⊥
   no-zero e h d z = false≢true (sym e ∙ zero-of h d z)
@@ -138,9 +141,9 @@ module _ (f : List ℤ) (nb cx : ℕ) (thres1 : ℤ) (small : cx < 3) where
   listed : Listed f nb cx thres1 (score-at ys 0) (filled (lag-at ys) n (replicate 8 0)) n
   listed =
       record {
-        size = length-filled (lag-at ys) n (replicate 8 0) (omega (arith, scanned .within, looked-few small));
+        size = length-filled (lag-at ys) n (replicate 8 0) (omega (arith, scanned .within, search-length-few small));
         each = λ p l. subst (λ (d : ℕ). GoesOn f nb cx thres1 (score-at ys 0) d × (place1 f nb d ≡ p)) (sym (getD-filled (lag-at ys) n (replicate 8 0) p 0 l))
-            (goes-on p l, place-at f nb p (omega (arith, scanned .within, looked-few small)));
+            (goes-on p l, place-at f nb p (omega (arith, scanned .within, search-length-few small)));
         all = λ d g. found d g (decLt (place1 f nb d) n);
         rest = λ p l. getD-after (lag-at ys) n (replicate 8 0) p 0 l ∙ nothing-there 8 p;
       }

@@ -1,4 +1,4 @@
--- Laws of stage 1's correlations and scores, and what the functions that compute them say to one another.
+-- Laws of stage 1's correlations and scores.
 use mathlib.Core.Path.{_≡_, refl, sym, ap, ap₂, _∙_}
 use mathlib.Core.Bool.{Bool, true, false, cond, true≢false}
 use mathlib.Core.List.{List}
@@ -6,7 +6,7 @@ use mathlib.Core.Logic.{_⊎_, ⊎-elim}
 use Prim.Native.Nat.{ℕ, suc, _+_, _-_, _*_, _/_, _≤_, _<_}
 use native.Mathlib.Omega.{arith}
 use lib.IntN.{ℤ, pos, negsuc, natAbs, _+ℤ_, _-ℤ_, _*ℤ_}
-use lib.Dec.{lit≤, eqb}
+use lib.Dec.{lit<, lit≤, eqb}
 use native.Mathlib.Decide.{decLt}
 use lib.ListN.{length, getD, drop, replicate}
 use lib.Seq.{drop-drop}
@@ -21,37 +21,21 @@ use Rattle.lists.specs.Fill.{tabulate, filled}
 use Rattle.lists.specs.FillLaws.{filled-all, tabulate-ext, filled-ext, getD-tabulate, getD-filled}
 use Rattle.best.specs.Best.{some}
 use Rattle.best.specs.BestLaws.{some-true, some-false, some-ext}
+use Rattle.best.specs.PairLaws.{some-pairs}
 use Rattle.silk_sigproc.specs.Dot.{dot}
 use Rattle.silk_sigproc.specs.DotLaws.{dot-slide}
 use Rattle.silk_macros.specs.Macros.{smulbb}
 use Rattle.silk_macros.specs.Divide.{quotient, by-zero, low16-of}
 use Rattle.silk_macros.specs.declared.Quotient.{Quotient}
 use Rattle.silk_macros.specs.declared.Quotient.the-variants.{Value, ZeroDivisor as ByZero}
-use Rattle.stage1.specs.Stage1.{target1, cross1, norm1, quotient1, zero-in, zero1, corr1, sum1, biased1, score1}
-
--- ---- what the functions say to one another: a loop that stops at a zero divisor has filled its array only where it has met none
-
--- the quotient of the i-th lag, from cross-correlations counted from the last lag and divisors counted from the first
-abbrev pub divided : List ℤ → List ℤ → ℕ → Quotient
-divided xs ns i = quotient (sample xs (64 - i)) (sample ns i) (pos 14)
-
-pub record Divided (xs ns c₀ c : List ℤ) (zero : Bool) : Type 0 where
-  pub told : zero ≡ some 65 (λ i. by-zero (divided xs ns i))
-  pub found : zero ≡ false → c ≡ filled (λ i. low16-of (divided xs ns i)) 65 c₀
-
-pub record HalfFrame (f : List ℤ) (h : ℕ) (c₀ c : List ℤ) (zero : Bool) : Type 0 where
-  pub told : zero ≡ zero-in f h
-  pub found : zero ≡ false → c ≡ filled (λ i. corr1 f h (8 + i)) 65 c₀
-
-pub record Scored (f : List ℤ) (nb : ℕ) (c₀ c : List ℤ) (zero : Bool) : Type 0 where
-  pub told : zero ≡ zero1 f nb
-  pub found : zero ≡ false → c ≡ filled (λ i. score1 f nb (8 + i)) 65 c₀
+use Rattle.stage1.specs.Stage1.{target1, cross-sum1, target-energy1, basis-energy1, divisor-sum1, cross1, divisor1, quotient1, divisors1, half-no, lag-no1, zero1, corr1, sum1, biased1, score1}
+use Rattle.stage1.specs.Steps.{quotient-at, Divided, zero-in, HalfFrame, Scored}
 
 -- ---- the correlations and the divisors along the lags
 
 -- the kernel's list, which starts at the last lag
 pub cross-all : (f : List ℤ) (h : ℕ) → filled (λ k. wrap w32 (dot (drop (80 + 40 * h) f) (drop k (drop (80 + 40 * h - 72) f)) 40)) 65 (replicate 65 (pos 0)) ≡ tabulate (λ i. cross1 f h (72 - i)) 65
-unfolding cross1 target1
+unfolding cross1 cross-sum1 target1
 cross-all f h =
     filled-all _ 65 (replicate 65 (pos 0)) (lit≤ tt)
     ∙ tabulate-ext 65 (λ k l.
@@ -63,20 +47,20 @@ unfolding smulbb wrap modZ
 floor = refl
 
 -- the divisor of the first lag, as it is summed
-pub norm-first : (f : List ℤ) (h : ℕ)
+pub divisor-first : (f : List ℤ) (h : ℕ)
     → wrap w32 (wrap w32 (wrap w32 (dot (drop (80 + 40 * h) f) (drop (80 + 40 * h) f) 40) +ℤ wrap w32 (dot (drop (80 + 40 * h - 8) f) (drop (80 + 40 * h - 8) f) 40)) +ℤ smulbb (pos 40) (pos 4000))
-    ≡ norm1 f h 8
-unfolding norm1 target1
-norm-first f h = simp (wraps, floor)
+    ≡ divisor1 f h 8
+unfolding divisor1 divisor-sum1 target-energy1 basis-energy1 target1
+divisor-first f h = simp (wraps, floor)
 
 slid : (t d p q : ℤ) → t +ℤ d +ℤ pos 160000 +ℤ (p -ℤ q) ≡ t +ℤ (d -ℤ q +ℤ p) +ℤ pos 160000
 slid t d p q = ring (v t ⊕ v d ⊕ n 160000 ⊕ (v p ⊖ v q)) (v t ⊕ (v d ⊖ v q ⊕ v p) ⊕ n 160000) (omega arith)
 
 -- the divisor of the next lag: a sample comes and one goes
-pub norm-next : (f : List ℤ) (h i : ℕ) → 1 ≤ i → i < 65
-    → wrap w32 (norm1 f h (8 + (i - 1)) +ℤ (sample f (72 + 40 * h - i) *ℤ sample f (72 + 40 * h - i) -ℤ sample f (72 + 40 * h - i + 40) *ℤ sample f (72 + 40 * h - i + 40))) ≡ norm1 f h (8 + i)
-unfolding norm1 target1
-norm-next f h i l u =
+pub divisor-next : (f : List ℤ) (h i : ℕ) → 1 ≤ i → i < 65
+    → wrap w32 (divisor1 f h (8 + (i - 1)) +ℤ (sample f (72 + 40 * h - i) *ℤ sample f (72 + 40 * h - i) -ℤ sample f (72 + 40 * h - i + 40) *ℤ sample f (72 + 40 * h - i + 40))) ≡ divisor1 f h (8 + i)
+unfolding divisor1 divisor-sum1 target-energy1 basis-energy1 target1
+divisor-next f h i l u =
     let b = 72 + 40 * h - i in
     let eb : 80 + 40 * h - (8 + i) ≡ b = omega arith in
     let es : 80 + 40 * h - (8 + (i - 1)) ≡ suc b = omega arith in
@@ -114,30 +98,30 @@ pub value-low : {q : Quotient} {z : ℤ} → q ≡ Value z → (by-zero q ≡ fa
 value-low e = (ap by-zero e, ap low16-of e)
 
 -- no divisor is zero, and the array is filled
-pub divided-none : (xs ns c₀ c : List ℤ) → ((i : ℕ) → i < 65 → by-zero (divided xs ns i) ≡ false) → c ≡ filled (λ i. low16-of (divided xs ns i)) 65 c₀ → Divided xs ns c₀ c false
-divided-none xs ns c₀ c h e = record { told = sym (some-false 65 _ h); found = λ z. e }
+pub no-divisor-zero : (xs ns c₀ c : List ℤ) → ((i : ℕ) → i < 65 → by-zero (quotient-at xs ns i) ≡ false) → c ≡ filled (λ i. low16-of (quotient-at xs ns i)) 65 c₀ → Divided xs ns c₀ c false
+no-divisor-zero xs ns c₀ c h e = record { zero-is = sym (some-false 65 _ h); array-is = λ z. e }
 
 -- a divisor is zero
-pub divided-zero : (xs ns c₀ c : List ℤ) (i : ℕ) → i < 65 → divided xs ns i ≡ ByZero → Divided xs ns c₀ c true
-divided-zero xs ns c₀ c i l e = record { told = sym (some-true 65 _ i l (ap by-zero e)); found = λ z. absurd (true≢false z) }
+pub a-divisor-zero : (xs ns c₀ c : List ℤ) (i : ℕ) → i < 65 → quotient-at xs ns i ≡ ByZero → Divided xs ns c₀ c true
+a-divisor-zero xs ns c₀ c i l e = record { zero-is = sym (some-true 65 _ i l (ap by-zero e)); array-is = λ z. absurd (true≢false z) }
 
 -- the arrays of a half-frame hold what its quotients are taken of
 module _ (f : List ℤ) (h : ℕ) where
-  divided-is : (xs ns : List ℤ) → xs ≡ tabulate (λ i. cross1 f h (72 - i)) 65 → ns ≡ tabulate (λ i. norm1 f h (8 + i)) 65 → (i : ℕ) → i < 65 → divided xs ns i ≡ quotient1 f h (8 + i)
+  quotient-at-is : (xs ns : List ℤ) → xs ≡ tabulate (λ i. cross1 f h (72 - i)) 65 → ns ≡ tabulate (λ i. divisor1 f h (8 + i)) 65 → (i : ℕ) → i < 65 → quotient-at xs ns i ≡ quotient1 f h (8 + i)
   unfolding quotient1 sample
-  divided-is xs ns ex en i l =
+  quotient-at-is xs ns ex en i l =
       let e : 72 - (64 - i) ≡ 8 + i = omega arith in
-      ap₂ (λ (x y : List ℤ). divided x y i) ex en
+      ap₂ (λ (x y : List ℤ). quotient-at x y i) ex en
       ∙ ap₂ (λ (x y : ℤ). quotient x y (pos 14))
       (getD-tabulate (λ k. cross1 f h (72 - k)) 65 (64 - i) (pos 0) (omega arith) ∙ ap (cross1 f h) e)
-      (getD-tabulate (λ k. norm1 f h (8 + k)) 65 i (pos 0) l)
+      (getD-tabulate (λ k. divisor1 f h (8 + k)) 65 i (pos 0) l)
 
-  pub half-frame-of : (xs ns c₀ c : List ℤ) (zero : Bool) → xs ≡ tabulate (λ i. cross1 f h (72 - i)) 65 → ns ≡ tabulate (λ i. norm1 f h (8 + i)) 65 → Divided xs ns c₀ c zero → HalfFrame f h c₀ c zero
+  pub half-frame-of : (xs ns c₀ c : List ℤ) (zero : Bool) → xs ≡ tabulate (λ i. cross1 f h (72 - i)) 65 → ns ≡ tabulate (λ i. divisor1 f h (8 + i)) 65 → Divided xs ns c₀ c zero → HalfFrame f h c₀ c zero
   unfolding zero-in corr1
   half-frame-of xs ns c₀ c zero ex en d =
       record {
-        told = d .told ∙ some-ext 65 _ _ (λ i l. ap by-zero (divided-is xs ns ex en i l));
-        found = λ z. d .found z ∙ filled-ext 65 c₀ (λ i l. ap low16-of (divided-is xs ns ex en i l));
+        zero-is = d .zero-is ∙ some-ext 65 _ _ (λ i l. ap by-zero (quotient-at-is xs ns ex en i l));
+        array-is = λ z. d .array-is z ∙ filled-ext 65 c₀ (λ i l. ap low16-of (quotient-at-is xs ns ex en i l));
       }
 
 -- ---- the scores
@@ -155,12 +139,16 @@ some-half {nb} s = ⊎-elim (λ (e : nb ≡ 2). omega arith) (λ (e : nb ≡ 4).
 twice : (z : ℤ) → z +ℤ z ≡ pos 2 *ℤ z
 twice z = ring (v z ⊕ v z) (n 2 ⊗ v z) (omega arith)
 
+-- the numbered divisors, half-frame by half-frame
+pub zero1-halves : (f : List ℤ) (nb : ℕ) → zero1 f nb ≡ some (nb / 2) (zero-in f)
+unfolding zero1 divisors1 half-no lag-no1 zero-in
+zero1-halves f nb = some-pairs (nb / 2) 65 (λ h i. by-zero (quotient1 f h (8 + i))) (lit< tt)
+
 module _ (f : List ℤ) (nb : ℕ) where
   -- a zero divisor in half-frame h
   pub scored-zero : (h : ℕ) (a₀ a c₀ c : List ℤ) (zero : Bool) → h < nb / 2 → HalfFrame f h a₀ a zero → zero ≡ true → Scored f nb c₀ c true
-  unfolding zero1
   scored-zero h a₀ a c₀ c zero l r e =
-      record { told = sym (some-true (nb / 2) (zero-in f) h l (sym (r .told) ∙ e)); found = λ z. absurd (true≢false z) }
+      record { zero-is = sym (zero1-halves f nb ∙ some-true (nb / 2) (zero-in f) h l (sym (r .zero-is) ∙ e)); array-is = λ z. absurd (true≢false z) }
 
   -- the scores from the correlations of half-frames 0 and h
   combined : (h : ℕ) → ((d : ℕ) → corr1 f 0 d +ℤ corr1 f h d ≡ sum1 f nb d) → (a₀ a b₀ b c₀ c : List ℤ) → a ≡ filled (λ i. corr1 f 0 (8 + i)) 65 a₀ → b ≡ filled (λ i. corr1 f h (8 + i)) 65 b₀
@@ -178,23 +166,23 @@ module _ (f : List ℤ) (nb : ℕ) where
   -- one half-frame, which counts twice
   pub scored-one : (a₀ a c₀ c : List ℤ) (zero : Bool) → nb ≡ 2 → HalfFrame f 0 a₀ a zero → zero ≡ false
       → c ≡ filled (λ i. biased1 (sample a i +ℤ sample a i) (8 + i)) 65 c₀ → Scored f nb c₀ c false
-  unfolding zero1 sum1
+  unfolding sum1
   scored-one a₀ a c₀ c zero n2 r e ec =
       record {
-        told = sym (some-false (nb / 2) (zero-in f) (λ h l. let z : h ≡ 0 = omega arith in ap (zero-in f) z ∙ sym (r .told) ∙ e));
-        found = λ z. combined 0 (λ d. twice (corr1 f 0 d) ∙ sym (ap (λ (t : Bool). cond t (corr1 f 0 d +ℤ corr1 f 1 d) (pos 2 *ℤ corr1 f 0 d)) (ap (λ (m : ℕ). eqb m 4) n2))) a₀ a a₀ a c₀ c (r .found e) (r .found e) ec;
+        zero-is = sym (zero1-halves f nb ∙ some-false (nb / 2) (zero-in f) (λ h l. let z : h ≡ 0 = omega arith in ap (zero-in f) z ∙ sym (r .zero-is) ∙ e));
+        array-is = λ z. combined 0 (λ d. twice (corr1 f 0 d) ∙ sym (ap (λ (t : Bool). cond t (corr1 f 0 d +ℤ corr1 f 1 d) (pos 2 *ℤ corr1 f 0 d)) (ap (λ (m : ℕ). eqb m 4) n2))) a₀ a a₀ a c₀ c (r .array-is e) (r .array-is e) ec;
       }
 
   -- two half-frames
   pub scored-two : (a₀ a b₀ b c₀ c : List ℤ) (zero zero′ : Bool) → nb ≡ 4 → HalfFrame f 0 a₀ a zero → zero ≡ false → HalfFrame f 1 b₀ b zero′ → zero′ ≡ false
       → c ≡ filled (λ i. biased1 (sample a i +ℤ sample b i) (8 + i)) 65 c₀ → Scored f nb c₀ c false
-  unfolding zero1 sum1
+  unfolding sum1
   scored-two a₀ a b₀ b c₀ c zero zero′ n4 r e r′ e′ ec =
       record {
-        told = sym (some-false (nb / 2) (zero-in f) (λ h l. by-half h (decLt h 1) (omega arith)));
-        found = λ z. combined 1 (λ d. sym (ap (λ (t : Bool). cond t (corr1 f 0 d +ℤ corr1 f 1 d) (pos 2 *ℤ corr1 f 0 d)) (ap (λ (m : ℕ). eqb m 4) n4))) a₀ a b₀ b c₀ c (r .found e) (r′ .found e′) ec;
+        zero-is = sym (zero1-halves f nb ∙ some-false (nb / 2) (zero-in f) (λ h l. by-half h (decLt h 1) (omega arith)));
+        array-is = λ z. combined 1 (λ d. sym (ap (λ (t : Bool). cond t (corr1 f 0 d +ℤ corr1 f 1 d) (pos 2 *ℤ corr1 f 0 d)) (ap (λ (m : ℕ). eqb m 4) n4))) a₀ a b₀ b c₀ c (r .array-is e) (r′ .array-is e′) ec;
       }
     where
       by-half : (h : ℕ) → Dec (h < 1) → h < 2 → zero-in f h ≡ false
-      by-half h (yes l) u = let z : h ≡ 0 = omega arith in ap (zero-in f) z ∙ sym (r .told) ∙ e
-      by-half h (no l) u = let z : h ≡ 1 = omega arith in ap (zero-in f) z ∙ sym (r′ .told) ∙ e′
+      by-half h (yes l) u = let z : h ≡ 0 = omega arith in ap (zero-in f) z ∙ sym (r .zero-is) ∙ e
+      by-half h (no l) u = let z : h ≡ 1 = omega arith in ap (zero-in f) z ∙ sym (r′ .zero-is) ∙ e′

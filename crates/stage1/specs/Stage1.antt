@@ -104,7 +104,7 @@ lag-at xs r = 8 + ranked xs r
 unfoldable pub score-at : List ℤ → ℕ → ℤ
 score-at xs r = sample xs (ranked xs r)
 
--- "The 4 + 2 × complexity best are kept": so many places of the ranking are looked at
+-- "The 4 + 2 × complexity best are kept": so many places of the ranking are searched
 unfoldable pub search-length : ℕ → ℕ
 search-length cx = 4 + 2 * cx
 

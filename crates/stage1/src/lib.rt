@@ -4,22 +4,20 @@ ghost use mathlib.Core.List.{[]};
 ghost use mathlib.Core.Logic.{_⊎_};
 ghost use Prim.Native.Nat.{ℕ, _+_, _-_, _*_, _<_, _≤_};
 ghost use lib.IntN.{_+ℤ_, _-ℤ_, _*ℤ_};
-ghost use lib.ListN.{length, getD, drop, replicate};
+ghost use lib.ListN.{length, getD, replicate};
 ghost use mir.Syntax.{w32};
 ghost use Rattle.answers.specs.Answer.{answer-numbers};
 ghost use Rattle.zint.specs.Wrap.{wrap};
 ghost use Rattle.lists.specs.Signal.{sample};
 ghost use Rattle.lists.specs.Fill.{tabulate, filled};
-ghost use Rattle.silk_sigproc.specs.Dot.{dot};
-ghost use Rattle.stage1.specs.Stage1.{cross1, norm1, biased1, search-length, stopped, stage1, screen-numbers, screen-number, Handed1};
-ghost use Rattle.stage1.specs.ScoreLaws.{Divided, HalfFrame, Scored};
-ghost use Rattle.stage1.specs.KeptLaws.{run, selected};
+ghost use Rattle.stage1.specs.Stage1.{cross1, divisor1, biased1, search-length, stopped, stage1, screen-numbers, screen-number, Handed1};
+ghost use Rattle.stage1.specs.Steps.{Divided, HalfFrame, Scored, count-above, selected};
 use silk_macros::Quotient;
 use silk_macros::silk_div32_varq;
 use silk_macros::silk_smlawb;
 use silk_macros::silk_smulbb;
 use silk_macros::silk_smulwb;
-use silk_sigproc::silk_inner_prod_aligned;
+use silk_sigproc::energy_from;
 use silk_sigproc::silk_pitch_xcorr;
 use silk_sigproc::square;
 use silk_sort::silk_insertion_sort_decreasing_int16;
@@ -75,22 +73,17 @@ fn cross_correlations(frame_4khz: &[i16], h: usize) -> [i32; 65]
     xcorr32
 }
 
-// The energy of the 40 samples from a place on.
-fn energy(frame_4khz: &[i16], from: usize) -> i32
-    requires { ⌜ from + 40 ≤ length (now «frame_4khz») ⌝ }
-    ensures { λ r. ⌜ r ≡ wrap w32 (dot (drop from (now («frame_4khz» .entry))) (drop from (now («frame_4khz» .entry))) 40) ⌝ }
-{
-    silk_inner_prod_aligned(&frame_4khz[from..], &frame_4khz[from..], SF_LENGTH_8KHZ)
-}
-
 // The normaliser of half-frame h at the first lag.
 fn first_normalizer(frame_4khz: &[i16], h: usize) -> i32
     requires { ⌜ (h < 2) × (120 + 40 * h ≤ length (now «frame_4khz»)) ⌝ }
-    ensures { λ r. ⌜ r ≡ norm1 (now («frame_4khz» .entry)) h 8 ⌝ }
+    ensures { λ r. ⌜ r ≡ divisor1 (now («frame_4khz» .entry)) h 8 ⌝ }
 {
     let target = target(h);
-    let mut normalizer = energy(frame_4khz, target);
-    normalizer = wrapping_add_i32(normalizer, energy(frame_4khz, target - MIN_LAG_4KHZ));
+    let mut normalizer = energy_from(frame_4khz, target, SF_LENGTH_8KHZ);
+    normalizer = wrapping_add_i32(
+        normalizer,
+        energy_from(frame_4khz, target - MIN_LAG_4KHZ, SF_LENGTH_8KHZ),
+    );
     wrapping_add_i32(normalizer, silk_smulbb(SF_LENGTH_8KHZ as i32, 4000))
 }
 
@@ -104,7 +97,7 @@ fn slide(normalizer: i32, come: i16, gone: i16) -> i32
 // The normalisers of half-frame h.
 fn normalizers(frame_4khz: &[i16], h: usize) -> [i32; 65]
     requires { ⌜ (h < 2) × (120 + 40 * h ≤ length (now «frame_4khz»)) ⌝ }
-    ensures { λ r. ⌜ r ≡ tabulate (λ (i : ℕ). norm1 (now («frame_4khz» .entry)) h (8 + i)) 65 ⌝ }
+    ensures { λ r. ⌜ r ≡ tabulate (λ (i : ℕ). divisor1 (now («frame_4khz» .entry)) h (8 + i)) 65 ⌝ }
 {
     let mut normalizers = [0i32; CSTRIDE_4KHZ];
     let mut normalizer = first_normalizer(frame_4khz, h);
@@ -184,8 +177,8 @@ fn scores(frame_4khz: &[i16], nb_subfr: usize, c_combined: &mut [i16]) -> bool
     false
 }
 
-// How many places of the ranking are looked at.
-fn looked_at(complexity: usize) -> usize
+// How many places of the ranking are searched.
+fn search_length(complexity: usize) -> usize
     requires { ⌜ complexity < 3 ⌝ }
     ensures { λ r. ⌜ r ≡ search-length complexity ⌝ }
 {
@@ -195,7 +188,7 @@ fn looked_at(complexity: usize) -> usize
 // How many of the first n scores lie, from the front on, above the threshold.
 fn run_above(c_combined: &[i16], n: usize, threshold: i32) -> usize
     requires { ⌜ n ≤ length (now «c_combined») ⌝ }
-    ensures { λ r. ⌜ r ≡ run (now («c_combined» .entry)) n threshold ⌝ }
+    ensures { λ r. ⌜ r ≡ count-above (now («c_combined» .entry)) n threshold ⌝ }
 {
     for i in 0..n {
         let score = c_combined[i] as i32;
@@ -229,7 +222,7 @@ fn stop(screen: Screen) -> Stage1
     }
 }
 
-// The answer from the sorted scores and their indices, of which the first n are looked at.
+// The answer from the sorted scores and their indices, of which the first n are searched.
 fn select(c_combined: &[i16], d_srch: &[usize], n: usize, search_thres1_q16: i32) -> Stage1
     requires { ⌜ (0 < n) × ((n ≤ 8) × ((n ≤ length (now «c_combined»)) × ((n ≤ length (now «d_srch»)) × ((i : ℕ) → i < n → getD (now «d_srch») i 0 < 65)))) ⌝ }
     ensures { λ r. ⌜ r ≡ selected (now («c_combined» .entry)) (now («d_srch» .entry)) n «search_thres1_q16» ⌝ }
@@ -264,7 +257,7 @@ pub fn search_stage1(
         return stop(Screen::ZeroDivisor);
     }
     let mut d_srch = [0usize; 8];
-    let length_d_srch = looked_at(complexity);
+    let length_d_srch = search_length(complexity);
     silk_insertion_sort_decreasing_int16(&mut c_combined, &mut d_srch, CSTRIDE_4KHZ, length_d_srch);
     select(&c_combined, &d_srch, length_d_srch, search_thres1_q16)
 }

@@ -14,13 +14,14 @@ use Rattle.lists.specs.Signal.{sample}
 use Rattle.lists.specs.Fill.{filled}
 use Rattle.lists.specs.FillLaws.{filled-none, filled-turn}
 use Rattle.silk_macros.specs.Divide.{quotient, by-zero, low16-of}
-use Rattle.stage1.specs.ScoreLaws.{divided, divided-zero, divided-none, value-low}
+use Rattle.stage1.specs.Steps.{quotient-at}
+use Rattle.stage1.specs.ScoreLaws.{a-divisor-zero, no-divisor-zero, value-low}
 use Rattle.zint.specs.RuleLaws.{zneeds}
 use Rattle.stage1.proofs.quotients.Statement.{statement}
 use Rattle.stage1.proofs.quotients.Tie as tie
 
 abbrev Inv-loop : tie.InvT-loop
-Inv-loop xcorr32 normalizers c₀ i₀ c i = (i ≤ 65) × ((length c ≡ length c₀) × (((k : ℕ) → k < i → by-zero (divided xcorr32 normalizers k) ≡ false) × (c ≡ filled (λ (k : ℕ). low16-of (divided xcorr32 normalizers k)) i c₀)))
+Inv-loop xcorr32 normalizers c₀ i₀ c i = (i ≤ 65) × ((length c ≡ length c₀) × (((k : ℕ) → k < i → by-zero (quotient-at xcorr32 normalizers k) ≡ false) × (c ≡ filled (λ (k : ℕ). low16-of (quotient-at xcorr32 normalizers k)) i c₀)))
 
 abbrev μ-loop : tie.MeasureT-loop
 μ-loop xcorr32 normalizers c₀ i₀ c i = 65 - i
@@ -29,7 +30,7 @@ loop-holds : tie.Need-loop-holds Inv-loop μ-loop
 loop-holds c = (search zneeds, (search zneeds, (λ k h. absurd (omega arith), filled-none _ _)))
 
 -- what a turn divides
-known : (c : tie.After-silk-div32-varq Inv-loop μ-loop) → c .silk-div32-varq .result ≡ divided (c .before .before .before .before .before .args .xcorr32 .now) (c .before .before .before .before .before .args .normalizers .now) (c .before .before .before .before .loop .i)
+known : (c : tie.After-silk-div32-varq Inv-loop μ-loop) → c .silk-div32-varq .result ≡ quotient-at (c .before .before .before .before .before .args .xcorr32 .now) (c .before .before .before .before .before .args .normalizers .now) (c .before .before .before .before .loop .i)
 unfolding sample
 known c =
     let x = r-elem w32 _ (c .before .before .cross-corr .given) .val in
@@ -47,7 +48,7 @@ returns : tie.Need-returns Inv-loop μ-loop
 returns c =
     let d = c .before .before in
     let s = d .before .before .before .before in
-    divided-zero _ _ _ _ (s .loop .i) (omega arith) (sym (known d) ∙ c .enum-told .given .1)
+    a-divisor-zero _ _ _ _ (s .loop .i) (omega arith) (sym (known d) ∙ c .enum-told .given .1)
 
 loop-again : tie.Need-loop-again Inv-loop μ-loop
 loop-again c =
@@ -64,8 +65,8 @@ loop-again c =
       (
         simp length-set (s .loop .inv .1 .0),
         (
-          below-more (λ (m : ℕ). by-zero (divided xs ns m) ≡ false) i (s .loop .inv .1 .1 .0) (k .0),
-          filled-turn (λ (m : ℕ). low16-of (divided xs ns m)) i (a .c .now) (s .loop .inv .1 .1 .1) (r ∙ sym (k .1)) (omega arith),
+          below-more (λ (m : ℕ). by-zero (quotient-at xs ns m) ≡ false) i (s .loop .inv .1 .1 .0) (k .0),
+          filled-turn (λ (m : ℕ). low16-of (quotient-at xs ns m)) i (a .c .now) (s .loop .inv .1 .1 .1) (r ∙ sym (k .1)) (omega arith),
         ),
       ),
     )
@@ -75,8 +76,8 @@ returns-2 c =
     let s = c .before in
     let a = s .before .args in
     let e : s .loop .i ≡ 65 = omega arith in
-    divided-none _ _ _ _ (λ i l. s .loop .inv .1 .1 .0 i (omega arith))
-    (s .loop .inv .1 .1 .1 ∙ ap (λ (m : ℕ). filled (λ (k : ℕ). low16-of (divided (a .xcorr32 .now) (a .normalizers .now) k)) m (a .c .now)) e)
+    no-divisor-zero _ _ _ _ (λ i l. s .loop .inv .1 .1 .0 i (omega arith))
+    (s .loop .inv .1 .1 .1 ∙ ap (λ (m : ℕ). filled (λ (k : ℕ). low16-of (quotient-at (a .xcorr32 .now) (a .normalizers .now) k)) m (a .c .now)) e)
 
 pub quotients-spec : {M : Type 1} → statement M
 quotients-spec =

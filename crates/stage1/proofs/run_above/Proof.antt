@@ -11,7 +11,7 @@ use mir.Val.{toZ, ofZ}
 use Rattle.zint.specs.OrderLaws.{le-read, not-le-read}
 use Rattle.zint.specs.ReadLaws.{r-var}
 use Rattle.lists.specs.Signal.{sample}
-use Rattle.stage1.specs.KeptLaws.{run-is}
+use Rattle.stage1.specs.KeptLaws.{count-above-is}
 use Rattle.zint.specs.RuleLaws.{zneeds}
 use Rattle.stage1.proofs.run_above.Statement.{statement}
 use Rattle.stage1.proofs.run_above.Tie as tie
@@ -32,7 +32,7 @@ returns c =
     let a = s .before .args in
     let x : toZ w32 (ofZ w32 (toZ w16 (ofZ w16 (getD (a .c-combined .now) (s .loop .i) (pos 0))))) ≡ getD (a .c-combined .now) (s .loop .i) (pos 0) = search zneeds in
     let t = r-var (s .before .fits .threshold) .val in
-    run-is (a .c-combined .now) (a .n) (a .threshold) (s .loop .i) (omega arith) (λ q h. subst (λ (z : ℤ). z <ℤ sample (a .c-combined .now) q) t (s .loop .inv .1 q h)) (λ h. le-read x t (c .if1 .taken))
+    count-above-is (a .c-combined .now) (a .n) (a .threshold) (s .loop .i) (omega arith) (λ q h. subst (λ (z : ℤ). z <ℤ sample (a .c-combined .now) q) t (s .loop .inv .1 q h)) (λ h. le-by x t (c .if1 .taken))
 
 loop-again : tie.Need-loop-again Inv-loop μ-loop
 unfolding sample
@@ -47,7 +47,7 @@ returns-2 c =
     let s = c .before in
     let a = s .before .args in
     let t = r-var (s .before .fits .threshold) .val in
-    run-is (a .c-combined .now) (a .n) (a .threshold) (a .n) (omega arith) (λ q h. subst (λ (z : ℤ). z <ℤ sample (a .c-combined .now) q) t (s .loop .inv .1 q (omega arith))) (λ h. absurd (omega arith))
+    count-above-is (a .c-combined .now) (a .n) (a .threshold) (a .n) (omega arith) (λ q h. subst (λ (z : ℤ). z <ℤ sample (a .c-combined .now) q) t (s .loop .inv .1 q (omega arith))) (λ h. absurd (omega arith))
 
 pub run-above-spec : {M : Type 1} → statement M
 run-above-spec =

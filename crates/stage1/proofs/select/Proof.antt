@@ -8,7 +8,8 @@ use mir.Val.{toZ, ofZ}
 use Rattle.zint.specs.ReadLaws.{Reads, r-var, r-elem, wide-32, r-call2, t-below}
 use Rattle.lists.specs.Signal.{sample}
 use Rattle.silk_macros.specs.Macros.{smulwb}
-use Rattle.stage1.specs.KeptLaws.{run, run-le, selected-low, selected-high}
+use Rattle.stage1.specs.Steps.{count-above}
+use Rattle.stage1.specs.KeptLaws.{count-above-le, selected-low, selected-high}
 use Rattle.zint.specs.RuleLaws.{zneeds}
 use Rattle.stage1.proofs.select.Statement.{statement}
 use Rattle.stage1.proofs.select.Tie as tie
@@ -19,13 +20,13 @@ unfolding sample
 first c = wide-32 (r-elem w16 (getD (c .before .before .args .c-combined .now) 0 (pos 0)) (c .best .given) .fit)
 
 -- how many go on
-counted : (c : tie.After-run-above) → c .run-above .result ≡ run (c .before .before .before .before .before .args .c-combined .now) (c .before .before .before .before .before .args .n) (smulwb (c .before .before .before .before .before .args .search-thres1-q16) (sample (c .before .before .before .before .before .args .c-combined .now) 0))
+counted : (c : tie.After-run-above) → c .run-above .result ≡ count-above (c .before .before .before .before .before .args .c-combined .now) (c .before .before .before .before .before .args .n) (smulwb (c .before .before .before .before .before .args .search-thres1-q16) (sample (c .before .before .before .before .before .args .c-combined .now) 0))
 counted c =
     let m = c .before .silk-smulwb in
     let b = c .before .before .before in
     let s = b .before .before in
     c .run-above .ensures
-    ∙ ap (run (s .args .c-combined .now) (s .args .n)) (r-call2 w32 smulwb (m .ok) (r-var (s .fits .search-thres1-q16)) (first b) (m .ensures) .val)
+    ∙ ap (count-above (s .args .c-combined .now) (s .args .n)) (r-call2 w32 smulwb (m .ok) (r-var (s .fits .search-thres1-q16)) (first b) (m .ensures) .val)
 
 returns : tie.Need-returns
 returns c = c .stop .ensures ∙ selected-low _ _ _ _ (t-below (pos 3277) (first (c .before .before)) (c .before .if1 .taken))
@@ -33,7 +34,7 @@ returns c = c .stop .ensures ∙ selected-low _ _ _ _ (t-below (pos 3277) (first
 lags-of-requires : tie.Need-lags-of-requires
 lags-of-requires c κs =
     let s = c .before .before .before .before .before in
-    let l = run-le (s .args .c-combined .now) (s .args .n) (smulwb (s .args .search-thres1-q16) (sample (s .args .c-combined .now) 0)) in
+    let l = count-above-le (s .args .c-combined .now) (s .args .n) (smulwb (s .args .search-thres1-q16) (sample (s .args .c-combined .now) 0)) in
     let e = counted c in
     (omega arith, (omega arith, λ i h. s .pre .1 .1 .1 .1 i (omega arith)))
 
