@@ -10,8 +10,9 @@ use lib.Signed.{_≤ℤ_, _<ℤ_}
 use Rattle.pitch_settings.specs.declared.Settings.{Settings}
 use Rattle.frame_signals.specs.Scale.{scaled}
 use Rattle.stage1.specs.Stage1.{score1, kept}
-use Rattle.stage1.specs.Meaning.{Lag, ZeroReached as ZeroReached1}
-use Rattle.stage2.specs.Meaning.{ZeroReached as ZeroReached2, Passes, Wins}
+use Rattle.stage1.specs.Meaning.{Lag, ZeroReached1}
+use Rattle.stage2.specs.Stage2.{search-of}
+use Rattle.stage2.specs.Meaning.{ZeroReached2, Passes, Wins}
 use Rattle.stage3.specs.Meaning.{ZeroReached as ZeroReached3, BestPair, Candidate}
 use Rattle.silk_pitch_analysis.specs.declared.Verdict.{Verdict}
 use Rattle.silk_pitch_analysis.specs.declared.Verdict.the-variants.{Voiced, Unvoiced, ZeroDivisor}
@@ -54,10 +55,10 @@ module _ (s : Settings) (x : List ℤ) (prev corr : ℤ) where
   -- ---- stage 2: no lag passes, or the winner: it passes, scores at least as high as every passing lag and higher than every lower one
 
   abbrev pub NonePasses : Type 0
-  NonePasses = (d : ℕ) → Passes e lags (s .rate) (s .nb) (s .complexity) (s .thres2) prev corr d → ⊥
+  NonePasses = (d : ℕ) → Passes (search-of e lags (s .rate) (s .nb) (s .complexity) (s .thres2) prev corr) d → ⊥
 
   abbrev pub Won : ℕ → ℕ → ℤ → Type 0
-  Won d j r = Wins e lags (s .rate) (s .nb) (s .complexity) (s .thres2) prev corr d j r
+  Won d j r = Wins (search-of e lags (s .rate) (s .nb) (s .complexity) (s .thres2) prev corr) d j r
 
   -- ---- the last stage's pair: at 8 kHz the winner's; else stage 3's candidate that scores at least as high as every other and higher than every earlier one, or the scaled winner
   -- with contour 0 where there is no candidate

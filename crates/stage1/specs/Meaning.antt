@@ -21,7 +21,7 @@ pub record Lag (d : ℕ) : Type 0 where
 
 module _ (f : List ℤ) (nb : ℕ) where
   -- a half-frame and a lag whose divisor is zero: all of them are reached
-  pub record ZeroReached (h d : ℕ) : Type 0 where
+  pub record ZeroReached1 (h d : ℕ) : Type 0 where
     pub half : h < nb / 2
     pub lag : Lag d
     pub no-divisor : divisor1 f h d ≡ pos 0
@@ -48,16 +48,16 @@ module _ (f : List ℤ) (nb : ℕ) where
       pub above : smulwb thres1 t <ℤ score1 f nb d
 
     -- the lags that go on and no others, each at the place that says how many rank before it; 0 in the places after them
-    pub record Listed (t : ℤ) (lags : List ℕ) (count : ℕ) : Type 0 where
+    pub record KeptLags (t : ℤ) (lags : List ℕ) (count : ℕ) : Type 0 where
       pub size : length lags ≡ 8
       pub each : (p : ℕ) → p < count → GoesOn t (getD lags p 0) × (place1 (getD lags p 0) ≡ p)
       pub all : (d : ℕ) → GoesOn t d → place1 d < count
       pub rest : (p : ℕ) → count ≤ p → getD lags p 0 ≡ 0
 
     abbrev pub Said : Screen → List ℕ → ℕ → Type 0
-    Said ZeroDivisor lags count = ((h : ℕ) × (d : ℕ) × ZeroReached h d) × (lags ≡ replicate 8 0) × (count ≡ 0)
-    Said Unvoiced lags count = ((h d : ℕ) → ZeroReached h d → ⊥) × ((t : ℤ) × Top t × (t <ℤ pos 3277)) × (lags ≡ replicate 8 0) × (count ≡ 0)
-    Said Goes lags count = ((h d : ℕ) → ZeroReached h d → ⊥) × ((t : ℤ) × Top t × (pos 3277 ≤ℤ t) × Listed t lags count)
+    Said ZeroDivisor lags count = ((h : ℕ) × (d : ℕ) × ZeroReached1 h d) × (lags ≡ replicate 8 0) × (count ≡ 0)
+    Said Unvoiced lags count = ((h d : ℕ) → ZeroReached1 h d → ⊥) × ((t : ℤ) × Top t × (t <ℤ pos 3277)) × (lags ≡ replicate 8 0) × (count ≡ 0)
+    Said Goes lags count = ((h d : ℕ) → ZeroReached1 h d → ⊥) × ((t : ℤ) × Top t × (pos 3277 ≤ℤ t) × KeptLags t lags count)
 
     abbrev pub Meaning : Stage1 → Type 0
     Meaning x = Said (x .screen) (x .lags) (x .count)

@@ -31,7 +31,7 @@ use Rattle.stage1.specs.Steps.{zero-in}
 use Rattle.stage1.specs.ScoreLaws.{zero1-halves}
 use Rattle.stage1.specs.KeptLaws.{First, search-length-few}
 use Rattle.stage1.specs.PlaceLaws.{below, lag-score, lag-is, at-score, place-at, lag-of, one-place, falls, scan}
-use Rattle.stage1.specs.Meaning.{Lag, ZeroReached, RanksBefore, place1, Top, GoesOn, Listed, Said, Meaning}
+use Rattle.stage1.specs.Meaning.{Lag, ZeroReached1, RanksBefore, place1, Top, GoesOn, KeptLags, Said, Meaning}
 
 -- ---- the ranking in words
 
@@ -73,7 +73,7 @@ module _ (f : List ℤ) (nb : ℕ) where
 -- ---- zero divisors
 
 module _ (f : List ℤ) (nb : ℕ) where
-  zero-words : zero1 f nb ≡ true → (h : ℕ) × (d : ℕ) × ZeroReached f nb h d
+  zero-words : zero1 f nb ≡ true → (h : ℕ) × (d : ℕ) × ZeroReached1 f nb h d
   unfolding zero-in quotient1
   zero-words e =
       let p = some-find (nb / 2) (zero-in f) (sym (zero1-halves f nb) ∙ e) in
@@ -88,7 +88,7 @@ module _ (f : List ℤ) (nb : ℕ) where
         },
       )
 
-  zero-of : (h d : ℕ) → ZeroReached f nb h d → zero1 f nb ≡ true
+  zero-of : (h d : ℕ) → ZeroReached1 f nb h d → zero1 f nb ≡ true
   unfolding zero-in quotient1
   zero-of h d z =
       let e : 8 + (d - 8) ≡ d = omega (arith, z .lag .at-least) in
@@ -97,15 +97,15 @@ module _ (f : List ℤ) (nb : ℕ) where
       (some-true 65 (λ i. by-zero (quotient1 f h (8 + i))) (d - 8) (omega (arith, z .lag .at-most))
       (ap (λ (m : ℕ). by-zero (quotient1 f h m)) e ∙ by-zero-is (cross1 f h d) (divisor1 f h d) (pos 14) ∙ eqZ-yes (z .no-divisor)))
 
-  no-zero : zero1 f nb ≡ false → (h d : ℕ) → ZeroReached f nb h d → ⊥
+  no-zero : zero1 f nb ≡ false → (h d : ℕ) → ZeroReached1 f nb h d → ⊥
   no-zero e h d z = false≢true (sym e ∙ zero-of h d z)
 
 -- ---- the lags that go on
 
-nothing-there : (n p : ℕ) → _≡_ {A = ℕ} (getD (replicate n 0) p 0) 0
-nothing-there zero p = refl
-nothing-there (suc n) zero = refl
-nothing-there (suc n) (suc p) = nothing-there n p
+zero-there : (n p : ℕ) → _≡_ {A = ℕ} (getD (replicate n 0) p 0) 0
+zero-there zero p = refl
+zero-there (suc n) zero = refl
+zero-there (suc n) (suc p) = zero-there n p
 
 module _ (f : List ℤ) (nb cx : ℕ) (thres1 : ℤ) (small : cx < 3) where
   abbrev ys : List ℤ
@@ -138,14 +138,14 @@ module _ (f : List ℤ) (nb cx : ℕ) (thres1 : ℤ) (small : cx < 3) where
       let e = at-score f nb r h ∙ ap (score1 f nb) (lag-of f nb d (g .lag)) in
       clashℤ (g .above) (subst (λ (z : ℤ). z ≤ℤ threshold1 ys thres1) e (≤ℤ-trans (falls f nb n r (omega arith) h) low))
 
-  listed : Listed f nb cx thres1 (score-at ys 0) (filled (lag-at ys) n (replicate 8 0)) n
+  listed : KeptLags f nb cx thres1 (score-at ys 0) (filled (lag-at ys) n (replicate 8 0)) n
   listed =
       record {
         size = length-filled (lag-at ys) n (replicate 8 0) (omega (arith, scanned .within, search-length-few small));
         each = λ p l. subst (λ (d : ℕ). GoesOn f nb cx thres1 (score-at ys 0) d × (place1 f nb d ≡ p)) (sym (getD-filled (lag-at ys) n (replicate 8 0) p 0 l))
             (goes-on p l, place-at f nb p (omega (arith, scanned .within, search-length-few small)));
         all = λ d g. found d g (decLt (place1 f nb d) n);
-        rest = λ p l. getD-after (lag-at ys) n (replicate 8 0) p 0 l ∙ nothing-there 8 p;
+        rest = λ p l. getD-after (lag-at ys) n (replicate 8 0) p 0 l ∙ zero-there 8 p;
       }
 
   by-best : (t : Bool) → ltZ (score-at ys 0) (pos 3277) ≡ t → zero1 f nb ≡ false
@@ -184,7 +184,7 @@ module _ (f : List ℤ) (nb cx : ℕ) (thres1 : ℤ) where
       either true = refl
       either false = refl
 
-  none-zero : ((h d : ℕ) → ZeroReached f nb h d → ⊥) → zero1 f nb ≡ false
+  none-zero : ((h d : ℕ) → ZeroReached1 f nb h d → ⊥) → zero1 f nb ≡ false
   none-zero n = by (zero1 f nb) refl
     where
       by : (t : Bool) → zero1 f nb ≡ t → t ≡ false
@@ -192,17 +192,17 @@ module _ (f : List ℤ) (nb cx : ℕ) (thres1 : ℤ) where
       by false e = refl
 
   -- a zero divisor where some half-frame and lag have one
-  pub zero-where : (h d : ℕ) → ZeroReached f nb h d → stage1 f nb cx thres1 .screen ≡ ZeroDivisor
+  pub zero-where : (h d : ℕ) → ZeroReached1 f nb h d → stage1 f nb cx thres1 .screen ≡ ZeroDivisor
   zero-where h d z = screen-is true (ltZ (score-at zs 0) (pos 3277)) (zero-of f nb h d z) refl
 
   -- unvoiced where none has and every score is under 3277
-  pub unvoiced-where : ((h d : ℕ) → ZeroReached f nb h d → ⊥) → ((d : ℕ) → Lag d → score1 f nb d <ℤ pos 3277) → stage1 f nb cx thres1 .screen ≡ Unvoiced
+  pub unvoiced-where : ((h d : ℕ) → ZeroReached1 f nb h d → ⊥) → ((d : ℕ) → Lag d → score1 f nb d <ℤ pos 3277) → stage1 f nb cx thres1 .screen ≡ Unvoiced
   unvoiced-where n low =
       let t = top-is f nb .of in
       screen-is false true (none-zero n) (lt-yes (subst (λ (z : ℤ). z <ℤ pos 3277) (t .1 .1) (low (t .0) (t .1 .0))))
 
   -- it goes on where none has and some score is at least 3277
-  pub goes-where : ((h d : ℕ) → ZeroReached f nb h d → ⊥) → (d : ℕ) → Lag d → pos 3277 ≤ℤ score1 f nb d → stage1 f nb cx thres1 .screen ≡ Goes
+  pub goes-where : ((h d : ℕ) → ZeroReached1 f nb h d → ⊥) → (d : ℕ) → Lag d → pos 3277 ≤ℤ score1 f nb d → stage1 f nb cx thres1 .screen ≡ Goes
   goes-where n d l high = screen-is false false (none-zero n) (lt-no (≤ℤ-trans high (top-is f nb .highest d l)))
 
   -- and only there
@@ -210,17 +210,17 @@ module _ (f : List ℤ) (nb cx : ℕ) (thres1 : ℤ) where
     said : {s : Screen} → stage1 f nb cx thres1 .screen ≡ s → Said f nb cx thres1 s (stage1 f nb cx thres1 .lags) (stage1 f nb cx thres1 .count)
     said e = subst (λ (s : Screen). Said f nb cx thres1 s (stage1 f nb cx thres1 .lags) (stage1 f nb cx thres1 .count)) e (stage1-means f nb cx thres1 r)
 
-    pub zero-only : stage1 f nb cx thres1 .screen ≡ ZeroDivisor → (h : ℕ) × (d : ℕ) × ZeroReached f nb h d
+    pub zero-only : stage1 f nb cx thres1 .screen ≡ ZeroDivisor → (h : ℕ) × (d : ℕ) × ZeroReached1 f nb h d
     zero-only e = said e .0
 
-    pub unvoiced-only : stage1 f nb cx thres1 .screen ≡ Unvoiced → ((h d : ℕ) → ZeroReached f nb h d → ⊥) × ((d : ℕ) → Lag d → score1 f nb d <ℤ pos 3277)
+    pub unvoiced-only : stage1 f nb cx thres1 .screen ≡ Unvoiced → ((h d : ℕ) → ZeroReached1 f nb h d → ⊥) × ((d : ℕ) → Lag d → score1 f nb d <ℤ pos 3277)
     unvoiced-only e = let m = said e in (m .0, λ d l. ≤ℤ-<ℤ-trans (m .1 .1 .highest d l) (m .1 .2))
 
 -- ---- no other answer has that meaning
 
 module _ (f : List ℤ) (nb cx : ℕ) (thres1 : ℤ) where
   -- lists of the same lags
-  module _ (t : ℤ) (l m : List ℕ) (i j : ℕ) (a : Listed f nb cx thres1 t l i) (b : Listed f nb cx thres1 t m j) where
+  module _ (t : ℤ) (l m : List ℕ) (i j : ℕ) (a : KeptLags f nb cx thres1 t l i) (b : KeptLags f nb cx thres1 t m j) where
     as-many : i ≤ j
     as-many = by (decLt j i)
       where
@@ -234,7 +234,7 @@ module _ (f : List ℤ) (nb cx : ℕ) (thres1 : ℤ) where
         let y = b .each p k in
         one-place f nb (getD l p 0) (getD m p 0) (x .0 .lag) (y .0 .lag) (x .1 ∙ sym (y .1))
 
-  same-list : (t : ℤ) (l m : List ℕ) (i j : ℕ) → Listed f nb cx thres1 t l i → Listed f nb cx thres1 t m j → (l ≡ m) × (i ≡ j)
+  same-list : (t : ℤ) (l m : List ℕ) (i j : ℕ) → KeptLags f nb cx thres1 t l i → KeptLags f nb cx thres1 t m j → (l ≡ m) × (i ≡ j)
   same-list t l m i j a b =
       let h = as-many t l m i j a b in
       let k = as-many t m l j i b a in
@@ -257,7 +257,7 @@ module _ (f : List ℤ) (nb cx : ℕ) (thres1 : ℤ) where
   one-meaning Goes ZeroDivisor l m i j (n, x) ((h, d, z), e, k) = absurd (n h d z)
   one-meaning Goes Unvoiced l m i j (n, (u, a′, b′, x)) (n′, (t, a, b), e, k) = clashℤ (subst (λ (z : ℤ). z <ℤ pos 3277) (one-top f nb t u a a′) b) b′
   one-meaning Goes Goes l m i j (n, (t, a, b, x)) (n′, (u, a′, b′, y)) =
-      let s = same-list t l m i j x (subst (λ (z : ℤ). Listed f nb cx thres1 z m j) (one-top f nb u t a′ a) y) in
+      let s = same-list t l m i j x (subst (λ (z : ℤ). KeptLags f nb cx thres1 z m j) (one-top f nb u t a′ a) y) in
       ap₂ (answer Goes) (s .0) (s .1)
 
   pub stage1-only : Handed1 f nb cx → (x : Stage1) → Meaning f nb cx thres1 x → x ≡ stage1 f nb cx thres1

@@ -1,8 +1,9 @@
--- Stage 2 of the pitch analyser. Definitions: `Scores`, `Stage2`; the answer in words: `Meaning`, shown in `MeaningLaws`; the rest are what proofs need.
+-- Stage 2 of the pitch analyser. Definitions: `Scores`, `Stage2`; the answer in words: `Meaning`, shown in `MeaningLaws`; between the functions: `Search`.
 pub mod Scores
-pub mod ScoreLaws
 pub mod Stage2
 pub mod Meaning
-pub mod Searched
+pub mod Search
+pub mod ScoreLaws
+pub mod SearchLaws
 pub mod NumberLaws
 pub mod MeaningLaws

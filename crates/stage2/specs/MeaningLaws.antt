@@ -18,162 +18,167 @@ use Rattle.silk_tables.specs.Tables.{contours2}
 use Rattle.silk_tables.specs.Stage2Laws.{contours2-bounds}
 use Rattle.zint.specs.BoolLaws.{and-left, and-right}
 use Rattle.best.specs.Best as Best
-use Rattle.best.specs.Best.{some, Place, none, at, BestOf}
+use Rattle.best.specs.Best.{Place, none, at, BestOf}
 use Rattle.best.specs.BestLaws.{some-find, some-none, best-outcome, BestBelow}
 use Rattle.stage2_correlations.specs.Marks.{listed, measured}
 use Rattle.stage2_correlations.specs.MeaningLaws.{listed-means, measured-means}
-use Rattle.stage2_correlations.specs.Correlations.{cross, divisor, quotient2, correlation, zero-reached}
+use Rattle.stage2_correlations.specs.Correlations.{cross2, divisor2, quotient2, zero-reached2, zero2}
+use Rattle.stage2_correlations.specs.RowLaws.{zero-in2, zero2-subframes}
 use Rattle.stage2.specs.declared.Stage2.{Stage2}
 use Rattle.stage2.specs.declared.Stage2.the-variants.{ZeroDivisor, Unvoiced, Winner}
-use Rattle.stage2.specs.Scores.{contour-sum, place-no, best-contour, lag-sum, threshold, passes, prev-8khz, score}
-use Rattle.stage2.specs.Stage2.{winner, won, picked, zero2, stage2}
-use Rattle.stage2.specs.Meaning.{ZeroReached, FirstContour, points, Passes, Wins, NoZero, Meaning}
+use Rattle.stage2.specs.Scores.{contour-sum, place-no, best-contour, lag-sum, Search2, passes2, score2}
+use Rattle.stage2.specs.Stage2.{winner, won, picked, search-of, stage2}
+use Rattle.stage2.specs.Meaning.{ZeroReached2, NoZero2, FirstContour, Passes, Wins, Meaning}
 
 -- ---- a lag's sum is that of its first contour of greatest sum
 
-pub contour-first : (c : ℕ → ℕ → ℤ) (nb m d : ℕ) → 0 < m → FirstContour c nb m d (best-contour c nb m d)
-unfolding best-contour
-contour-first c nb m d h = by (Best.best m (λ j. true) (contour-sum c nb d)) (best-outcome m (λ j. true) (contour-sum c nb d))
-  where
-    by : (a : Place) → BestBelow m (λ j. true) (contour-sum c nb d) a → FirstContour c nb m d (place-no a)
-    by none o = absurd (false≢true (sym (o 0 h)))
-    by (at p) o = record { tried = o .within; highest = λ j l. o .least-high j l refl; first = λ j l. o .first j l refl }
+module _ (s : Search2) (d : ℕ) where
+  abbrev sums : ℕ → ℤ
+  sums = contour-sum (s .correlations) (s .subframes) d
 
--- only one contour is that
-one-contour : (c : ℕ → ℕ → ℤ) (nb m d j j′ : ℕ) → FirstContour c nb m d j → FirstContour c nb m d j′ → j ≡ j′
-one-contour c nb m d j j′ f g = by (decLt j j′) (decLt j′ j)
-  where
-    by : Dec (j < j′) → Dec (j′ < j) → j ≡ j′
-    by (yes l) r = clashℤ (g .first j l) (f .highest j′ (g .tried))
-    by (no l) (yes r) = clashℤ (f .first j′ r) (g .highest j (f .tried))
-    by (no l) (no r) = omega arith
+  contour-first : 0 < s .contours → FirstContour s d (best-contour (s .correlations) (s .subframes) (s .contours) d)
+  unfolding best-contour
+  contour-first h = by (Best.best (s .contours) (λ j. true) sums) (best-outcome (s .contours) (λ j. true) sums)
+    where
+      by : (a : Place) → BestBelow (s .contours) (λ j. true) sums a → FirstContour s d (place-no a)
+      by none o = absurd (false≢true (sym (o 0 h)))
+      by (at p) o = record { tried = o .within; highest = λ j l. o .least-high j l refl; first = λ j l. o .first j l refl }
+
+  -- only one contour is that
+  one-contour : (j j′ : ℕ) → FirstContour s d j → FirstContour s d j′ → j ≡ j′
+  one-contour j j′ f g = by (decLt j j′) (decLt j′ j)
+    where
+      by : Dec (j < j′) → Dec (j′ < j) → j ≡ j′
+      by (yes l) r = clashℤ (g .first j l) (f .highest j′ (g .tried))
+      by (no l) (yes r) = clashℤ (f .first j′ r) (g .highest j (f .tried))
+      by (no l) (no r) = omega arith
 
 -- ---- tests and words
 
 module _ (e : List ℤ) (kept : List ℕ) (nb : ℕ) where
-  of-zero : (k d : ℕ) → k < nb → zero-reached e kept k d ≡ true → ZeroReached e kept nb k d
-  unfolding zero-reached quotient2
+  of-zero : (k d : ℕ) → k < nb → zero-reached2 e kept k d ≡ true → ZeroReached2 e kept nb k d
+  unfolding zero-reached2 quotient2
   of-zero k d l t =
-      let x = ltZ (pos 0) (cross e k d) in
+      let x = ltZ (pos 0) (cross2 e k d) in
       let z = by-zero (quotient2 e k d) in
       let u = and-right (measured kept d) (x && z) t in
       record {
         subframe = l;
         measures = measured-means kept d .0 (and-left (measured kept d) (x && z) t);
-        positive = lt-true (pos 0) (cross e k d) (and-left x z u);
-        is-zero = eqZ-true (divisor e k d) (pos 0) (sym (by-zero-is (cross e k d) (divisor e k d) (pos 14)) ∙ and-right x z u);
+        positive = lt-true (pos 0) (cross2 e k d) (and-left x z u);
+        is-zero = eqZ-true (divisor2 e k d) (pos 0) (sym (by-zero-is (cross2 e k d) (divisor2 e k d) (pos 14)) ∙ and-right x z u);
       }
 
-  zero-of : (k d : ℕ) → ZeroReached e kept nb k d → zero-reached e kept k d ≡ true
-  unfolding zero-reached quotient2
+  zero-of : (k d : ℕ) → ZeroReached2 e kept nb k d → zero-reached2 e kept k d ≡ true
+  unfolding zero-reached2 quotient2
   zero-of k d z =
-      ap₂ _&&_ (measured-means kept d .1 (z .measures)) (ap₂ _&&_ (lt-yes (z .positive)) (by-zero-is (cross e k d) (divisor e k d) (pos 14) ∙ eqZ-yes (z .is-zero)))
+      ap₂ _&&_ (measured-means kept d .1 (z .measures)) (ap₂ _&&_ (lt-yes (z .positive)) (by-zero-is (cross2 e k d) (divisor2 e k d) (pos 14) ∙ eqZ-yes (z .is-zero)))
 
-  zero-found : zero2 e kept nb ≡ true → (k : ℕ) × (d : ℕ) × ZeroReached e kept nb k d
-  unfolding zero2
+  zero-found : zero2 e kept nb ≡ true → (k : ℕ) × (d : ℕ) × ZeroReached2 e kept nb k d
+  unfolding zero-in2
   zero-found t =
-      let p = some-find nb (λ k. some 145 (zero-reached e kept k)) t in
-      let q = some-find 145 (zero-reached e kept (p .0)) (p .2) in
-      (p .0, q .0, of-zero (p .0) (q .0) (p .1) (q .2))
+      let p = some-find nb (zero-in2 e kept) (sym (zero2-subframes e kept nb) ∙ t) in
+      let q = some-find 131 (λ i. zero-reached2 e kept (p .0) (14 + i)) (p .2) in
+      (p .0, 14 + q .0, of-zero (p .0) (14 + q .0) (p .1) (q .2))
 
-  no-zero : zero2 e kept nb ≡ false → (k d : ℕ) → ZeroReached e kept nb k d → ⊥
-  unfolding zero2
+  no-zero : zero2 e kept nb ≡ false → NoZero2 e kept nb
+  unfolding zero-in2
   no-zero t k d z =
+      let l = z .measures .at-least in
       let m = z .measures .at-most in
-      let n = some-none 145 (zero-reached e kept k) (some-none nb (λ k. some 145 (zero-reached e kept k)) t k (z .subframe)) d (omega arith) in
-      false≢true (sym n ∙ zero-of k d z)
+      let n = some-none 131 (λ i. zero-reached2 e kept k (14 + i)) (some-none nb (zero-in2 e kept) (sym (zero2-subframes e kept nb) ∙ t) k (z .subframe)) (d - 14) (omega arith) in
+      let q : 14 + (d - 14) ≡ d = omega arith in
+      false≢true (sym n ∙ ap (zero-reached2 e kept k) q ∙ zero-of k d z)
 
-module _ (e : List ℤ) (kept : List ℕ) (fs nb cx : ℕ) (thres2 prev corr : ℤ) where
-  abbrev c : ℕ → ℕ → ℤ
-  c = correlation e kept
+module _ (s : Search2) where
+  abbrev sum-of : ℕ → ℤ
+  sum-of d = lag-sum (s .correlations) (s .subframes) (s .contours) d
 
-  abbrev m : ℕ
-  m = contours2 fs nb cx
-
-  abbrev P : ℕ → Type 0
-  P d = Passes e kept fs nb cx thres2 prev corr d
-
-  of-passes : (d : ℕ) → passes c kept nb m thres2 d ≡ true → P d
-  unfolding passes
+  of-passes : (d : ℕ) → passes2 s d ≡ true → Passes s d
+  unfolding passes2
   of-passes d t =
       record {
-        lists = listed-means kept d .0 (and-left (listed kept d) (ltZ (threshold nb thres2) (lag-sum c nb m d)) t);
-        above = lt-true (threshold nb thres2) (lag-sum c nb m d) (and-right (listed kept d) (ltZ (threshold nb thres2) (lag-sum c nb m d)) t);
+        lists = listed-means (s .kept) d .0 (and-left (listed (s .kept) d) (ltZ (s .threshold) (sum-of d)) t);
+        above = lt-true (s .threshold) (sum-of d) (and-right (listed (s .kept) d) (ltZ (s .threshold) (sum-of d)) t);
       }
 
-  passes-of : (d : ℕ) → P d → passes c kept nb m thres2 d ≡ true
-  unfolding passes
-  passes-of d p = ap₂ _&&_ (listed-means kept d .1 (p .lists)) (lt-yes (p .above))
+  passes-of : (d : ℕ) → Passes s d → passes2 s d ≡ true
+  unfolding passes2
+  passes-of d p = ap₂ _&&_ (listed-means (s .kept) d .1 (p .lists)) (lt-yes (p .above))
 
   -- a passing lag and its place
-  place-of : (d : ℕ) → P d → (d - 16 < 128) × (16 + (d - 16) ≡ d)
+  place-of : (d : ℕ) → Passes s d → (d - 16 < 128) × (16 + (d - 16) ≡ d)
   place-of d p =
       let l = p .lists .at-least in
       let h = p .lists .at-most in
       (omega arith, omega arith)
 
   abbrev cand : ℕ → Bool
-  cand p = passes c kept nb m thres2 (16 + p)
+  cand p = passes2 s (16 + p)
 
   abbrev points-at : ℕ → ℤ
-  points-at p = score c nb m (prev-8khz fs prev) corr (16 + p)
+  points-at p = score2 s (16 + p)
 
-  cand-of : (d : ℕ) → P d → cand (d - 16) ≡ true
-  cand-of d p = ap (passes c kept nb m thres2) (place-of d p .1) ∙ passes-of d p
+  cand-of : (d : ℕ) → Passes s d → cand (d - 16) ≡ true
+  cand-of d p = ap (passes2 s) (place-of d p .1) ∙ passes-of d p
 
-  points-of : (d : ℕ) → P d → points-at (d - 16) ≡ points e kept fs nb cx thres2 prev corr d
-  points-of d p = ap (score c nb m (prev-8khz fs prev) corr) (place-of d p .1)
+  points-of : (d : ℕ) → Passes s d → points-at (d - 16) ≡ score2 s d
+  points-of d p = ap (score2 s) (place-of d p .1)
 
-  some-tried : 0 < m
-  some-tried = let b = contours2-bounds fs nb cx in omega arith
-
-  best-wins : (p : ℕ) → BestOf 128 cand points-at p
-      → Wins e kept fs nb cx thres2 prev corr (16 + p) (best-contour c nb m (16 + p)) (quotZ (lag-sum c nb m (16 + p)) (pos nb) *ℤ pos 4)
+  best-wins : 0 < s .contours → (p : ℕ) → BestOf 128 cand points-at p
+      → Wins s (16 + p) (best-contour (s .correlations) (s .subframes) (s .contours) (16 + p)) (quotZ (sum-of (16 + p)) (pos (s .subframes)) *ℤ pos 4)
   unfolding lag-sum
-  best-wins p b =
+  best-wins some-tried p b =
       record {
         passes-so = of-passes (16 + p) (b .candidate);
         highest = λ d q. subst (λ (z : ℤ). z ≤ℤ points-at p) (points-of d q) (b .least-high (d - 16) (place-of d q .0) (cand-of d q));
         first = λ d q l.
             let k = q .lists .at-least in
             subst (λ (z : ℤ). z <ℤ points-at p) (points-of d q) (b .first (d - 16) (omega arith) (cand-of d q));
-        contour = contour-first c nb m (16 + p) some-tried;
+        contour = contour-first s (16 + p) some-tried;
         correlates = refl;
       }
 
-  by-place : (a : Place) → BestBelow 128 cand points-at a → NoZero e kept fs nb cx thres2 prev corr → Meaning e kept fs nb cx thres2 prev corr (won c nb m a)
-  by-place none o z = (z, λ d p. false≢true (sym (o (d - 16) (place-of d p .0)) ∙ cand-of d p))
-  by-place (at p) o z = (z, best-wins p o)
-
-  pub stage2-means : Meaning e kept fs nb cx thres2 prev corr (stage2 e kept fs nb cx thres2 prev corr)
-  unfolding stage2 picked winner
-  stage2-means = by (zero2 e kept nb) refl
-    where
-      by : (t : Bool) → zero2 e kept nb ≡ t → Meaning e kept fs nb cx thres2 prev corr (cond t ZeroDivisor (won c nb m (Best.best 128 cand points-at)))
-      by true h = zero-found e kept nb h
-      by false h = by-place (Best.best 128 cand points-at) (best-outcome 128 cand points-at) (no-zero e kept nb h)
-
-  -- ---- no other answer has that meaning
-
-  abbrev W : ℕ → ℕ → ℤ → Type 0
-  W d j r = Wins e kept fs nb cx thres2 prev corr d j r
-
-  one-winner : (d j d′ j′ : ℕ) (r r′ : ℤ) → W d j r → W d′ j′ r′ → Winner d j r ≡ Winner d′ j′ r′
+  one-winner : (d j d′ j′ : ℕ) (r r′ : ℤ) → Wins s d j r → Wins s d′ j′ r′ → Winner d j r ≡ Winner d′ j′ r′
   one-winner d j d′ j′ r r′ a b = by (decLt d d′) (decLt d′ d)
     where
       same : d ≡ d′ → Winner d j r ≡ Winner d′ j′ r′
       same q =
-          let f = subst (λ (x : ℕ). FirstContour c nb m x j) q (a .contour) in
-          let k = one-contour c nb m d′ j j′ f (b .contour) in
-          let s = a .correlates ∙ ap₂ (λ (x y : ℕ). quotZ (contour-sum c nb x y) (pos nb) *ℤ pos 4) q k ∙ sym (b .correlates) in
-          λ i. Winner (q i) (k i) (s i)
+          let f = subst (λ (x : ℕ). FirstContour s x j) q (a .contour) in
+          let k = one-contour s d′ j j′ f (b .contour) in
+          let t = a .correlates ∙ ap₂ (λ (x y : ℕ). quotZ (contour-sum (s .correlations) (s .subframes) x y) (pos (s .subframes)) *ℤ pos 4) q k ∙ sym (b .correlates) in
+          λ i. Winner (q i) (k i) (t i)
 
       by : Dec (d < d′) → Dec (d′ < d) → Winner d j r ≡ Winner d′ j′ r′
       by (yes l) k = clashℤ (b .first d (a .passes-so) l) (a .highest d′ (b .passes-so))
       by (no l) (yes k) = clashℤ (a .first d′ (b .passes-so) k) (b .highest d (a .passes-so))
       by (no l) (no k) = same (omega arith)
 
-  one-meaning : (x y : Stage2) → Meaning e kept fs nb cx thres2 prev corr x → Meaning e kept fs nb cx thres2 prev corr y → x ≡ y
+-- ---- the answer has the meaning, and no other has
+
+module _ (e : List ℤ) (kept : List ℕ) (fs nb cx : ℕ) (thres2 prev corr : ℤ) where
+  abbrev searched : Search2
+  searched = search-of e kept fs nb cx thres2 prev corr
+
+  abbrev Means : Stage2 → Type 0
+  Means = Meaning e kept fs nb cx thres2 prev corr
+
+  abbrev answer : Stage2
+  answer = stage2 e kept fs nb cx thres2 prev corr
+
+  by-place : (a : Place) → BestBelow 128 (cand searched) (points-at searched) a → NoZero2 e kept nb → Means (won searched a)
+  by-place none o z = (z, λ d p. false≢true (sym (o (d - 16) (place-of searched d p .0)) ∙ cand-of searched d p))
+  by-place (at p) o z = let b = contours2-bounds fs nb cx in (z, best-wins searched (omega arith) p o)
+
+  pub stage2-means : Means answer
+  unfolding stage2 picked winner
+  stage2-means = by (zero2 e kept nb) refl
+    where
+      by : (t : Bool) → zero2 e kept nb ≡ t → Means (cond t ZeroDivisor (won searched (Best.best 128 (cand searched) (points-at searched))))
+      by true h = zero-found e kept nb h
+      by false h = by-place (Best.best 128 (cand searched) (points-at searched)) (best-outcome 128 (cand searched) (points-at searched)) (no-zero e kept nb h)
+
+  one-meaning : (x y : Stage2) → Means x → Means y → x ≡ y
   one-meaning ZeroDivisor ZeroDivisor a b = refl
   one-meaning ZeroDivisor Unvoiced (k, d, z) (n, p) = absurd (n k d z)
   one-meaning ZeroDivisor (Winner d j r) (k, d′, z) (n, w) = absurd (n k d′ z)
@@ -182,14 +187,14 @@ module _ (e : List ℤ) (kept : List ℕ) (fs nb cx : ℕ) (thres2 prev corr : �
   one-meaning Unvoiced (Winner d j r) (n, p) (n′, w) = absurd (p d (w .passes-so))
   one-meaning (Winner d j r) ZeroDivisor (n, w) (k, d′, z) = absurd (n k d′ z)
   one-meaning (Winner d j r) Unvoiced (n, w) (n′, p) = absurd (p d (w .passes-so))
-  one-meaning (Winner d j r) (Winner d′ j′ r′) (n, w) (n′, w′) = one-winner d j d′ j′ r r′ w w′
+  one-meaning (Winner d j r) (Winner d′ j′ r′) (n, w) (n′, w′) = one-winner searched d j d′ j′ r r′ w w′
 
-  pub stage2-only : (x : Stage2) → Meaning e kept fs nb cx thres2 prev corr x → x ≡ stage2 e kept fs nb cx thres2 prev corr
-  stage2-only x a = one-meaning x (stage2 e kept fs nb cx thres2 prev corr) a stage2-means
+  pub stage2-only : (x : Stage2) → Means x → x ≡ answer
+  stage2-only x a = one-meaning x answer a stage2-means
 
   -- so each answer is given exactly where its words hold
-  pub stage2-exactly : (x : Stage2) → (stage2 e kept fs nb cx thres2 prev corr ≡ x → Meaning e kept fs nb cx thres2 prev corr x) × (Meaning e kept fs nb cx thres2 prev corr x → stage2 e kept fs nb cx thres2 prev corr ≡ x)
-  stage2-exactly x = (λ q. subst (Meaning e kept fs nb cx thres2 prev corr) q stage2-means, λ a. sym (stage2-only x a))
+  pub stage2-exactly : (x : Stage2) → (answer ≡ x → Means x) × (Means x → answer ≡ x)
+  stage2-exactly x = (λ q. subst Means q stage2-means, λ a. sym (stage2-only x a))
 
 -- ---- the winner's range, and that of the lag that stage 3 starts from
 

@@ -6,20 +6,21 @@ use Prim.Native.Nat.{ℕ}
 use lib.IntN.{ℤ}
 use Rattle.answers.specs.Answer.{answer-numbers}
 use Rattle.best.specs.Best.{Place, none, at}
-use Rattle.silk_tables.specs.Tables.{contours2}
-use Rattle.stage2_correlations.specs.Correlations.{correlation}
+use Rattle.stage2_correlations.specs.Correlations.{zero2}
 use Rattle.stage2.specs.declared.Stage2.{Stage2}
 use Rattle.stage2.specs.declared.Stage2.the-variants.{ZeroDivisor}
-use Rattle.stage2.specs.Scores.{prev-8khz}
-use Rattle.stage2.specs.Stage2.{winner, won, picked, zero2, stage2, stage2-numbers, won-verdict, won-values, stage2-verdict, stage2-values}
+use Rattle.stage2.specs.Scores.{Search2}
+use Rattle.stage2.specs.Stage2.{winner, won, picked, search-of, stage2, stage2-numbers, won-verdict, won-values, stage2-verdict, stage2-values}
 
 module _ (e : List ℤ) (kept : List ℕ) (fs nb cx : ℕ) (thres2 prev corr : ℤ) where
+  abbrev s : Search2
+  s = search-of e kept fs nb cx thres2 prev corr
+
   in-numbers : stage2-numbers (stage2 e kept fs nb cx thres2 prev corr) ≡ answer-numbers (stage2-verdict e kept fs nb cx thres2 prev corr) (stage2-values e kept fs nb cx thres2 prev corr)
   unfolding stage2 picked stage2-verdict stage2-values
-  in-numbers = by (zero2 e kept nb) (winner (correlation e kept) kept nb (contours2 fs nb cx) thres2 (prev-8khz fs prev) corr)
+  in-numbers = by (zero2 e kept nb) (winner s)
     where
-      by : (t : Bool) (a : Place) → stage2-numbers (cond t ZeroDivisor (won (correlation e kept) nb (contours2 fs nb cx) a))
-          ≡ answer-numbers (cond t 2 (won-verdict a)) (won-values (correlation e kept) nb (contours2 fs nb cx) a)
+      by : (t : Bool) (a : Place) → stage2-numbers (cond t ZeroDivisor (won s a)) ≡ answer-numbers (cond t 2 (won-verdict a)) (won-values s a)
       by true a = refl
       by false none = refl
       by false (at p) = refl

@@ -25,7 +25,8 @@ use Rattle.silk_macros.specs.LogLaws.{lin2log-is}
 use Rattle.silk_tables.specs.Tables.{moved-lag2}
 use Rattle.silk_tables.specs.Stage2Laws.{moved2-bounds}
 use Rattle.stage2_correlations.specs.Marks.{listed}
-use Rattle.stage2.specs.Scores.{sum, contour-sum, place-no, best-contour, lag-sum, threshold, passes, prev-8khz, lag-bias, distance, prev-bias, biased, score}
+use Rattle.stage2.specs.Scores.{sum, contour-sum, place-no, best-contour, lag-sum, Search2, threshold2, passes2, prev-8khz, lag-bias, distance, prev-bias, biased2, score2}
+use Rattle.stage2.specs.Search.{SixteenBits}
 
 -- ---- sums
 
@@ -142,20 +143,20 @@ module _ (cc : ℤ) (nb d : ℕ) (prev prev-log corr : ℤ) (h : natAbs cc ≤ 1
 
   -- by the test on the previous lag
   pub biased-yes : ltZ (pos 0) prev ≡ true
-      → cc -ℤ lag-bias nb (lin2log (pos d)) -ℤ prev-bias nb corr (distance (lin2log (pos d)) prev-log) ≡ biased cc nb d prev prev-log corr
-  unfolding biased
+      → cc -ℤ lag-bias nb (lin2log (pos d)) -ℤ prev-bias nb corr (distance (lin2log (pos d)) prev-log) ≡ biased2 cc nb d prev prev-log corr
+  unfolding biased2
   biased-yes e =
       sym (ap (λ (t : Bool). cc -ℤ lag-bias nb (lin2log (pos d)) -ℤ sel t (prev-bias nb corr (distance (lin2log (pos d)) prev-log)) (pos 0)) e)
 
-  pub biased-no : ltZ (pos 0) prev ≡ false → cc -ℤ lag-bias nb (lin2log (pos d)) ≡ biased cc nb d prev prev-log corr
-  unfolding biased
+  pub biased-no : ltZ (pos 0) prev ≡ false → cc -ℤ lag-bias nb (lin2log (pos d)) ≡ biased2 cc nb d prev prev-log corr
+  unfolding biased2
   biased-no e =
       sym (ap (λ (t : Bool). cc -ℤ lag-bias nb (lin2log (pos d)) -ℤ sel t (prev-bias nb corr (distance (lin2log (pos d)) prev-log)) (pos 0)) e ∙ sub-zero (cc -ℤ lag-bias nb (lin2log (pos d))))
 
-  pub biased-le : natAbs (biased cc nb d prev prev-log corr) ≤ 42074112
+  pub biased-le : natAbs (biased2 cc nb d prev prev-log corr) ≤ 42074112
   biased-le = by (ltZ (pos 0) prev) refl
     where
-      by : (t : Bool) → ltZ (pos 0) prev ≡ t → natAbs (biased cc nb d prev prev-log corr) ≤ 42074112
+      by : (t : Bool) → ltZ (pos 0) prev ≡ t → natAbs (biased2 cc nb d prev prev-log corr) ≤ 42074112
       by true e = rw (← biased-yes e) less-prev-bias
       by false e = rw (← biased-no e) (omega (arith, less-lag-bias))
 
@@ -164,14 +165,11 @@ above z h = lt-of (negsuc 2147483647) z (omega (arith, abs-ud z))
 
 -- ---- the sums of a lag, from correlations of 16 bits
 
-pub record Small (c : ℕ → ℕ → ℤ) (nb : ℕ) : Type 0 where
-  pub each : (k d : ℕ) → k < nb → 14 ≤ d → d ≤ 145 → natAbs (c k d) ≤ 32768
-
 -- a listed lag is moved to a lag of the row
 pub moved-in : (nb k d j : ℕ) → 16 ≤ d → d ≤ 143 → (14 ≤ moved-lag2 nb k d j) × (moved-lag2 nb k d j ≤ 145)
 moved-in nb k d j l h = let b = moved2-bounds nb k d j (omega arith) in (omega arith, omega arith)
 
-module _ (c : ℕ → ℕ → ℤ) (nb d : ℕ) (s : Small c nb) (l : 16 ≤ d) (h : d ≤ 143) where
+module _ (c : ℕ → ℕ → ℤ) (nb d : ℕ) (s : SixteenBits c nb) (l : 16 ≤ d) (h : d ≤ 143) where
   pub contour-small : (j : ℕ) → natAbs (contour-sum c nb d j) ≤ nb * 32768
   unfolding contour-sum
   contour-small j = sum-small (λ k. c k (moved-lag2 nb k d j)) nb 32768 (λ k q. s .each k (moved-lag2 nb k d j) q (moved-in nb k d j l h .0) (moved-in nb k d j l h .1))
@@ -180,10 +178,12 @@ module _ (c : ℕ → ℕ → ℤ) (nb d : ℕ) (s : Small c nb) (l : 16 ≤ d) 
   unfolding lag-sum
   lag-small m f = let p = mul-le-mul-right 32768 f in omega (arith, contour-small (best-contour c nb m d))
 
-  pub score-above : (m : ℕ) → nb ≤ 4 → (prev corr : ℤ) → negsuc 2147483647 <ℤ score c nb m prev corr d
-  unfolding score
-  score-above m f prev corr =
-      above (biased (lag-sum c nb m d) nb d prev (lin2log prev) corr) (biased-le (lag-sum c nb m d) nb d prev (lin2log prev) corr (lag-small m f))
+pub score-above : (s : Search2) (d : ℕ) → SixteenBits (s .correlations) (s .subframes) → s .subframes ≤ 4 → 16 ≤ d → d ≤ 143 → negsuc 2147483647 <ℤ score2 s d
+unfolding score2
+score-above s d small f l h =
+    let sum = lag-sum (s .correlations) (s .subframes) (s .contours) d in
+    above (biased2 sum (s .subframes) d (s .prev-lag) (lin2log (s .prev-lag)) (s .prev-corr))
+    (biased-le sum (s .subframes) d (s .prev-lag) (lin2log (s .prev-lag)) (s .prev-corr) (lag-small (s .correlations) (s .subframes) d small l h (s .contours) f))
 
 -- the contour that is best by comparison
 pub contour-is : (c : ℕ → ℕ → ℤ) (nb m d p : ℕ) → BestOf m (λ j. true) (contour-sum c nb d) p → best-contour c nb m d ≡ p
@@ -208,16 +208,23 @@ module _ (c c′ : ℕ → ℕ → ℤ) (nb : ℕ) (a : Agree c c′ nb) (d : �
   unfolding lag-sum
   lag-sum-ext m = contour-ext (best-contour c nb m d) ∙ ap (contour-sum c′ nb d) (best-contour-ext m)
 
-  pub passes-ext : (kept : List ℕ) (m : ℕ) (thres2 : ℤ) → passes c kept nb m thres2 d ≡ passes c′ kept nb m thres2 d
-  unfolding passes
-  passes-ext kept m thres2 = ap (λ (z : ℤ). listed kept d && ltZ (threshold nb thres2) z) (lag-sum-ext m)
+-- the same search by other correlations
+abbrev pub with-correlations : Search2 → (ℕ → ℕ → ℤ) → Search2
+with-correlations s c =
+    record { correlations = c; kept = s .kept; subframes = s .subframes; contours = s .contours; threshold = s .threshold; prev-lag = s .prev-lag; prev-corr = s .prev-corr }
 
-  pub score-ext : (m : ℕ) (prev corr : ℤ) → score c nb m prev corr d ≡ score c′ nb m prev corr d
-  unfolding score
-  score-ext m prev corr = ap (λ (z : ℤ). biased z nb d prev (lin2log prev) corr) (lag-sum-ext m)
+module _ (s : Search2) (c : ℕ → ℕ → ℤ) (a : Agree (s .correlations) c (s .subframes)) (d : ℕ) (l : 16 ≤ d) (h : d ≤ 143) where
+  pub passes-ext : passes2 s d ≡ passes2 (with-correlations s c) d
+  unfolding passes2
+  passes-ext = ap (λ (z : ℤ). listed (s .kept) d && ltZ (s .threshold) z) (lag-sum-ext (s .correlations) c (s .subframes) a d l h (s .contours))
+
+  pub score-ext : score2 s d ≡ score2 (with-correlations s c) d
+  unfolding score2
+  score-ext =
+      ap (λ (z : ℤ). biased2 z (s .subframes) d (s .prev-lag) (lin2log (s .prev-lag)) (s .prev-corr)) (lag-sum-ext (s .correlations) c (s .subframes) a d l h (s .contours))
 
 -- ---- the threshold is the source's product
 
-pub threshold-is : (nb : ℕ) (thres2 : ℤ) → nb ≤ 4 → smulbb (pos nb) thres2 ≡ threshold nb thres2
-unfolding smulbb threshold
+pub threshold-is : (nb : ℕ) (thres2 : ℤ) → nb ≤ 4 → smulbb (pos nb) thres2 ≡ threshold2 nb thres2
+unfolding smulbb threshold2
 threshold-is nb thres2 h = ap (λ (z : ℤ). z *ℤ wrap w16 thres2) (wrap-id w16 (pos nb) (record { sfits = omega arith }))

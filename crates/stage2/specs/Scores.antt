@@ -1,4 +1,5 @@
--- Stage 2's sums and scores of a lag d at 8 kHz, from the correlations c by subframe and lag. nb is the subframe count and m the number of contours tried.
+-- Stage 2's sums and scores of a lag d at 8 kHz, from the correlations c by subframe and lag. nb is the subframe count and m the number of contours tried; s is all that the
+-- search goes by.
 -- Definitions only; the laws are in `ScoreLaws`.
 use mathlib.Core.Bool.{Bool, true, _&&_, cond}
 use mathlib.Core.List.{List}
@@ -38,13 +39,28 @@ best-contour c nb m d = place-no (best m (λ j. true) (contour-sum c nb d))
 unfoldable pub lag-sum : (ℕ → ℕ → ℤ) → ℕ → ℕ → ℕ → ℤ
 lag-sum c nb m d = contour-sum c nb d (best-contour c nb m d)
 
+-- ---- what the search goes by
+
+pub record Search2 : Type 0 where
+  -- the correlations by subframe and lag, and the lags that stage 1 kept
+  pub correlations : ℕ → ℕ → ℤ
+  pub kept : List ℕ
+  -- how many subframes there are, and how many contours are tried
+  pub subframes : ℕ
+  pub contours : ℕ
+  -- what a lag's sum has to be above
+  pub threshold : ℤ
+  -- the previous lag at 8 kHz, and the previous correlation
+  pub prev-lag : ℤ
+  pub prev-corr : ℤ
+
 -- ---- "It passes if strictly above nb × low16(thres2)."
 
-unfoldable pub threshold : ℕ → ℤ → ℤ
-threshold nb thres2 = pos nb *ℤ wrap w16 thres2
+unfoldable pub threshold2 : ℕ → ℤ → ℤ
+threshold2 nb thres2 = pos nb *ℤ wrap w16 thres2
 
-unfoldable pub passes : (ℕ → ℕ → ℤ) → List ℕ → ℕ → ℕ → ℤ → ℕ → Bool
-passes c kept nb m thres2 d = listed kept d && ltZ (threshold nb thres2) (lag-sum c nb m d)
+unfoldable pub passes2 : Search2 → ℕ → Bool
+passes2 s d = listed (s .kept) d && ltZ (s .threshold) (lag-sum (s .correlations) (s .subframes) (s .contours) d)
 
 -- ---- "The best biased score": the steps are the source's
 
@@ -64,10 +80,10 @@ unfoldable pub prev-bias : ℕ → ℤ → ℤ → ℤ
 prev-bias nb corr dist = quotZ (wrap w32 (shrZ (smulbb (pos (nb * 1638)) corr) 32768 *ℤ dist)) (dist +ℤ pos 64)
 
 -- a sum less the two biases; there is a previous lag where it is positive
-unfoldable pub biased : ℤ → ℕ → ℕ → ℤ → ℤ → ℤ → ℤ
-biased cc nb d prev prev-log corr =
+unfoldable pub biased2 : ℤ → ℕ → ℕ → ℤ → ℤ → ℤ → ℤ
+biased2 cc nb d prev prev-log corr =
     cc -ℤ lag-bias nb (lin2log (pos d)) -ℤ sel (ltZ (pos 0) prev) (prev-bias nb corr (distance (lin2log (pos d)) prev-log)) (pos 0)
 
--- prev is the previous lag at 8 kHz and corr the previous correlation
-unfoldable pub score : (ℕ → ℕ → ℤ) → ℕ → ℕ → ℤ → ℤ → ℕ → ℤ
-score c nb m prev corr d = biased (lag-sum c nb m d) nb d prev (lin2log prev) corr
+unfoldable pub score2 : Search2 → ℕ → ℤ
+score2 s d =
+    biased2 (lag-sum (s .correlations) (s .subframes) (s .contours) d) (s .subframes) d (s .prev-lag) (lin2log (s .prev-lag)) (s .prev-corr)

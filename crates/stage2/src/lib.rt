@@ -7,9 +7,9 @@ ghost use Rattle.answers.specs.Answer.{answer-numbers};
 ghost use Rattle.silk_macros.specs.Log.{lin2log};
 ghost use Rattle.silk_tables.specs.Tables.{entries2};
 ghost use Rattle.stage2_correlations.specs.Marks.{Kept};
-ghost use Rattle.stage2.specs.Scores.{contour-sum, prev-8khz, distance, prev-bias, biased, threshold};
-ghost use Rattle.stage2.specs.Stage2.{picked, stage2, stage2-numbers, stage2-verdict, stage2-values, Handed2};
-ghost use Rattle.stage2.specs.Searched.{at2, Tried, Handed, along, considered, tried, answered, Upto};
+ghost use Rattle.stage2.specs.Scores.{contour-sum, prev-8khz, distance, prev-bias, biased2, threshold2};
+ghost use Rattle.stage2.specs.Stage2.{search-by, picked, stage2, stage2-numbers, stage2-verdict, stage2-values, Handed2};
+ghost use Rattle.stage2.specs.Search.{at2, HandedLag, HandedSearch, along, considered, best-with, best-answer, BestOfAll};
 use silk_macros::silk_div32;
 use silk_macros::silk_div32_16;
 use silk_macros::silk_lin2log;
@@ -41,7 +41,7 @@ pub struct Along {
 }
 
 // The best passing lag so far, its score, sum and contour; the lag is 0 before the first.
-pub struct Best {
+pub struct BestLag {
     pub top: i32,
     pub cc: i32,
     pub lag: usize,
@@ -50,7 +50,7 @@ pub struct Best {
 
 // The correlations along contour j of the lag d, added up over the subframes.
 fn contour_sum(c_8khz: &[[i16; 132]; 4], nb_subfr: usize, d: usize, j: usize) -> i32
-    requires { ⌜ Tried (now «c_8khz») «nb_subfr» d × (j < entries2 «nb_subfr») ⌝ }
+    requires { ⌜ HandedLag (now «c_8khz») «nb_subfr» d × (j < entries2 «nb_subfr») ⌝ }
     ensures { λ r. ⌜ r ≡ contour-sum (at2 (now («c_8khz» .entry))) «nb_subfr» d j ⌝ }
 {
     let mut cc: i32 = 0;
@@ -63,7 +63,7 @@ fn contour_sum(c_8khz: &[[i16; 132]; 4], nb_subfr: usize, d: usize, j: usize) ->
 
 // The first of the contours with the greatest sum.
 fn best_contour(c_8khz: &[[i16; 132]; 4], nb_subfr: usize, nb_cbk_search: usize, d: usize) -> Along
-    requires { ⌜ Tried (now «c_8khz») «nb_subfr» d × ((0 < «nb_cbk_search») × («nb_cbk_search» ≤ entries2 «nb_subfr»)) ⌝ }
+    requires { ⌜ HandedLag (now «c_8khz») «nb_subfr» d × ((0 < «nb_cbk_search») × («nb_cbk_search» ≤ entries2 «nb_subfr»)) ⌝ }
     ensures { λ r. ⌜ r ≡ along (at2 (now («c_8khz» .entry))) «nb_subfr» «nb_cbk_search» d ⌝ }
 {
     let mut cc0_max_new = contour_sum(c_8khz, nb_subfr, d, 0);
@@ -129,7 +129,7 @@ fn biased_score(
     prev_corr: i32,
 ) -> i32
     requires { ⌜ (natAbs cc ≤ 131072) × ((«nb_subfr» ≤ 4) × ((d ≤ 143) × (natAbs «prev_lag_log2_q7» ≤ 4096))) ⌝ }
-    ensures { λ r. ⌜ r ≡ biased cc «nb_subfr» d «prev_lag_8khz» «prev_lag_log2_q7» «prev_corr» ⌝ }
+    ensures { λ r. ⌜ r ≡ biased2 cc «nb_subfr» d «prev_lag_8khz» «prev_lag_log2_q7» «prev_corr» ⌝ }
 {
     let lag_log2_q7 = silk_lin2log(d as i32);
     let cc_max_new_b = cc - silk_rshift(silk_smulbb((nb_subfr * 410) as i32, lag_log2_q7), 7);
@@ -142,13 +142,13 @@ fn biased_score(
 }
 
 // One lag more.
-fn consider(best: Best, d: usize, cc: i32, contour: usize, score: i32, thres: i32) -> Best
+fn consider(best: BestLag, d: usize, cc: i32, contour: usize, score: i32, thres: i32) -> BestLag
     ensures { λ r. ⌜ r ≡ considered best d cc contour score thres ⌝ }
 {
     let top = best.top;
     if cc > thres {
         if score > top {
-            return Best {
+            return BestLag {
                 top: score,
                 cc: cc,
                 lag: d,
@@ -161,7 +161,7 @@ fn consider(best: Best, d: usize, cc: i32, contour: usize, score: i32, thres: i3
 
 // The lag d, where it is listed.
 fn try_lag(
-    best: Best,
+    best: BestLag,
     c_8khz: &[[i16; 132]; 4],
     kept: &[usize],
     nb_subfr: usize,
@@ -171,10 +171,10 @@ fn try_lag(
     prev_lag_8khz: i32,
     prev_lag_log2_q7: i32,
     prev_corr: i32,
-) -> Best
-    requires { ⌜ Tried (now «c_8khz») «nb_subfr» d × ((0 < «nb_cbk_search») × («nb_cbk_search» ≤ entries2 «nb_subfr»)) ⌝ }
+) -> BestLag
+    requires { ⌜ HandedLag (now «c_8khz») «nb_subfr» d × ((0 < «nb_cbk_search») × («nb_cbk_search» ≤ entries2 «nb_subfr»)) ⌝ }
     requires { ⌜ Kept (now kept) × («prev_lag_log2_q7» ≡ lin2log «prev_lag_8khz») ⌝ }
-    ensures { λ r. ⌜ r ≡ tried (at2 (now («c_8khz» .entry))) (now (kept .entry)) «nb_subfr» «nb_cbk_search» thres «prev_lag_8khz» «prev_corr» d best ⌝ }
+    ensures { λ r. ⌜ r ≡ best-with (record { correlations = at2 (now («c_8khz» .entry)); kept = now (kept .entry); subframes = «nb_subfr»; contours = «nb_cbk_search»; threshold = thres; prev-lag = «prev_lag_8khz»; prev-corr = «prev_corr» }) d best ⌝ }
 {
     if is_listed(kept, d) {
         let found = best_contour(c_8khz, nb_subfr, nb_cbk_search, d);
@@ -195,13 +195,13 @@ fn pick_lag(
     search_thres2_q13: i32,
     prev_lag_8khz: i32,
     prev_corr: i32,
-) -> Best
-    requires { ⌜ Handed (now «c_8khz») (now kept) «nb_subfr» × ((0 < «nb_cbk_search») × («nb_cbk_search» ≤ entries2 «nb_subfr»)) ⌝ }
-    ensures { λ r. ⌜ Upto (at2 (now («c_8khz» .entry))) (now (kept .entry)) «nb_subfr» «nb_cbk_search» (threshold «nb_subfr» «search_thres2_q13») «prev_lag_8khz» «prev_corr» 128 r ⌝ }
+) -> BestLag
+    requires { ⌜ HandedSearch (now «c_8khz») (now kept) «nb_subfr» × ((0 < «nb_cbk_search») × («nb_cbk_search» ≤ entries2 «nb_subfr»)) ⌝ }
+    ensures { λ r. ⌜ BestOfAll (record { correlations = at2 (now («c_8khz» .entry)); kept = now (kept .entry); subframes = «nb_subfr»; contours = «nb_cbk_search»; threshold = threshold2 «nb_subfr» «search_thres2_q13»; prev-lag = «prev_lag_8khz»; prev-corr = «prev_corr» }) r ⌝ }
 {
     let thres = silk_smulbb(nb_subfr as i32, search_thres2_q13);
     let prev_lag_log2_q7 = silk_lin2log(prev_lag_8khz);
-    let mut best = Best {
+    let mut best = BestLag {
         top: -2147483648,
         cc: 0,
         lag: 0,
@@ -225,9 +225,9 @@ fn pick_lag(
 }
 
 // The answer of the search.
-fn answer(best: Best, nb_subfr: usize) -> Stage2
+fn answer(best: BestLag, nb_subfr: usize) -> Stage2
     requires { ⌜ (natAbs (best .cc) ≤ 131072) × ((2 ≤ «nb_subfr») × («nb_subfr» ≤ 4)) ⌝ }
-    ensures { λ r. ⌜ r ≡ answered «nb_subfr» best ⌝ }
+    ensures { λ r. ⌜ r ≡ best-answer «nb_subfr» best ⌝ }
 {
     let lag = best.lag;
     if lag == 0 {
@@ -252,8 +252,8 @@ fn winner(
     prev_lag: i32,
     prev_corr: i32,
 ) -> Stage2
-    requires { ⌜ Handed (now «c_8khz») (now kept) «nb_subfr» ⌝ }
-    ensures { λ r. ⌜ r ≡ picked (at2 (now («c_8khz» .entry))) (now (kept .entry)) «fs_khz» «nb_subfr» complexity «search_thres2_q13» «prev_lag» «prev_corr» ⌝ }
+    requires { ⌜ HandedSearch (now «c_8khz») (now kept) «nb_subfr» ⌝ }
+    ensures { λ r. ⌜ r ≡ picked (search-by (at2 (now («c_8khz» .entry))) (now (kept .entry)) «fs_khz» «nb_subfr» complexity «search_thres2_q13» «prev_lag» «prev_corr») ⌝ }
 {
     let nb_cbk_search = nb_cbk_search_stage2(fs_khz, nb_subfr, complexity);
     let prev_lag_8khz = previous_8khz(fs_khz, prev_lag);

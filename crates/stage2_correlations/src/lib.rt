@@ -7,10 +7,11 @@ ghost use mir.Syntax.{w32};
 ghost use Rattle.zint.specs.Wrap.{wrap};
 ghost use Rattle.lists.specs.Fill.{tabulate};
 ghost use Rattle.stage2_correlations.specs.Marks.{near, listed, measured, Kept};
-ghost use Rattle.stage2_correlations.specs.Correlations.{target};
-ghost use Rattle.stage2_correlations.specs.Rows.{ratio-of, energy-from, at-lag, row};
+ghost use Rattle.stage2_correlations.specs.Correlations.{target2};
+ghost use Rattle.stage2_correlations.specs.Rows.{ratio-of, at-lag, subframe-row};
 use silk_macros::Quotient;
 use silk_macros::silk_div32_varq;
+use silk_sigproc::energy_from;
 use silk_sigproc::silk_inner_prod_aligned;
 use silk_sigproc::square;
 use zint::as_i16;
@@ -31,7 +32,7 @@ pub struct Ratio {
 
 // A subframe's correlations at the lags 14 to 145 (132 places, the source's CSTRIDE_8KHZ; lag 145 can be read and is never measured), and whether a divisor that was
 // reached is zero.
-pub struct Row {
+pub struct SubframeRow {
     pub zero: bool,
     pub c: [i16; 132],
 }
@@ -139,22 +140,14 @@ fn slide(energy: i32, gone: i16, come: i16) -> i32
     wrapping_add_i32(wrapping_sub_i32(energy, square(gone)), square(come))
 }
 
-// The energy of the 40 samples from start on.
-fn energy(frame_8khz: &[i16], start: usize) -> i32
-    requires { ⌜ start + 40 ≤ length (now «frame_8khz») ⌝ }
-    ensures { λ r. ⌜ r ≡ wrap w32 (energy-from (now («frame_8khz» .entry)) start) ⌝ }
-{
-    silk_inner_prod_aligned(&frame_8khz[start..], &frame_8khz[start..], SF_LENGTH_8KHZ)
-}
-
 // The correlations of subframe k at the marked lags.
-pub fn subframe_row(frame_8khz: &[i16], k: usize, marks: &[bool; 132]) -> Row
-    requires { ⌜ (k < 4) × (target k + 40 ≤ length (now «frame_8khz»)) ⌝ }
-    ensures { λ r. ⌜ r ≡ row (now («frame_8khz» .entry)) (now (marks .entry)) k ⌝ }
+pub fn subframe_row(frame_8khz: &[i16], k: usize, marks: &[bool; 132]) -> SubframeRow
+    requires { ⌜ (k < 4) × (target2 k + 40 ≤ length (now «frame_8khz»)) ⌝ }
+    ensures { λ r. ⌜ r ≡ subframe-row (now («frame_8khz» .entry)) (now (marks .entry)) k ⌝ }
 {
     let target = 160 + SF_LENGTH_8KHZ * k;
-    let energy_target = wrapping_add_i32(energy(frame_8khz, target), 1);
-    let mut energy_basis = energy(frame_8khz, target - 14);
+    let energy_target = wrapping_add_i32(energy_from(frame_8khz, target, SF_LENGTH_8KHZ), 1);
+    let mut energy_basis = energy_from(frame_8khz, target - 14, SF_LENGTH_8KHZ);
     let mut c_8khz = [0i16; 132];
     let mut zero = false;
     for i in 0..132 {
@@ -172,5 +165,5 @@ pub fn subframe_row(frame_8khz: &[i16], k: usize, marks: &[bool; 132]) -> Row
             frame_8khz[basis],
         );
     }
-    Row { zero, c: c_8khz }
+    SubframeRow { zero, c: c_8khz }
 }

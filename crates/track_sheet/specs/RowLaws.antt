@@ -10,10 +10,12 @@ use lib.Signed.{quotZ}
 use mir.Syntax.{w32}
 use mir.Val.{SFits}
 use Rattle.zint.specs.BoundLaws.{abs-prod, abs-fits}
-use Rattle.stage2_correlations.specs.Correlations.{correlation}
+use Rattle.silk_tables.specs.CarriedLaws.{carried-yes}
+use Rattle.stage2_correlations.specs.Correlations.{correlation2}
 use Rattle.stage2_correlations.specs.RowLaws.{correlation-small}
 use Rattle.stage2.specs.Scores.{contour-sum}
-use Rattle.stage2.specs.ScoreLaws.{Small, quot-le, contour-small}
+use Rattle.stage2.specs.Search.{SixteenBits}
+use Rattle.stage2.specs.ScoreLaws.{quot-le, contour-small}
 use Rattle.pitch_settings.specs.declared.Settings.{Settings}
 use Rattle.pitch_settings.specs.Settings.{settings-no, frame-length}
 use Rattle.pitch_settings.specs.SettingsLaws.{accepted-settings}
@@ -41,8 +43,8 @@ holds s zero-divisor = holds-yes s (unpitched-row (pos 2)) (row-zero-divisor s (
 module _ (s : Settings) (x : List ℤ) (prev corr : ℤ) (h : settings-no s ≡ 0) where
   voiced-small : {index contour r : ℤ} → VoicedWhen s x prev corr index contour r → natAbs r ≤ 131072
   voiced-small v =
-      let c = correlation (e s x prev corr) (lags s x prev corr) in
-      let small : Small c (s .nb) = record { each = λ k d l a b. correlation-small (e s x prev corr) (lags s x prev corr) k d } in
+      let c = correlation2 (e s x prev corr) (lags s x prev corr) in
+      let small : SixteenBits c (s .nb) = record { each = λ k d l a b. correlation-small (e s x prev corr) (lags s x prev corr) k d } in
       let w = v .won in
       let sum = contour-sum c (s .nb) (v .winner) (v .winner-contour) in
       let sized = contour-small c (s .nb) (v .winner) small (w .passes-so .lists .at-least) (w .passes-so .lists .at-most) (v .winner-contour) in

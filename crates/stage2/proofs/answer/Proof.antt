@@ -14,13 +14,13 @@ use Rattle.zint.specs.ReadLaws.{r-nat, r-got, r-call1}
 use Rattle.zint.specs.Wrap.{wrap}
 use Rattle.stage2.specs.declared.Stage2.the-variants.{Unvoiced, Winner}
 use Rattle.stage2.specs.ScoreLaws.{quot-le}
-use Rattle.stage2.specs.Searched.{answered}
+use Rattle.stage2.specs.Search.{best-answer}
 use Rattle.zint.specs.RuleLaws.{zneeds}
 use Rattle.stage2.proofs.answer.Statement.{statement}
 use Rattle.stage2.proofs.answer.Tie as tie
 
 returns : tie.Need-returns
-unfolding answered
+unfolding best-answer
 returns c =
     let b = c .before .args .best in
     sym (ap (λ (t : Bool). cond t Unvoiced (Winner (b .lag) (b .contour) (quotZ (b .cc) (pos (c .before .args .nb-subfr)) *ℤ pos 4))) (eq-eqb (b .lag) 0 (c .if1 .taken)))
@@ -45,7 +45,7 @@ silk-lshift-requires : tie.Need-silk-lshift-requires
 silk-lshift-requires c κs = search zneeds
 
 returns-2 : tie.Need-returns-2
-unfolding answered
+unfolding best-answer
 returns-2 c =
     let d = c .before in
     let s = d .before .before .before in

@@ -7,7 +7,8 @@ use mir.Syntax.{w32}
 use mir.Val.{toZ}
 use Rattle.zint.specs.ReadLaws.{r-got}
 use Rattle.zint.specs.TestLaws.{lt-true, lt-false}
-use Rattle.stage2.specs.Searched.{at2, Leads, leads-first, leads-over, leads-under, leads-all}
+use Rattle.stage2.specs.Search.{at2}
+use Rattle.stage2.specs.SearchLaws.{Leads, leads-first, leads-over, leads-under, leads-all}
 use Rattle.zint.specs.RuleLaws.{zneeds}
 use Rattle.stage2.proofs.best_contour.Statement.{statement}
 use Rattle.stage2.proofs.best_contour.Tie as tie

@@ -6,7 +6,7 @@ use lib.Signed.{ltZ}
 use mir.Syntax.{w32}
 use mir.Val.{toZ, ofZ}
 use Rattle.zint.specs.ReadLaws.{r-var, t-lt, via-lt}
-use Rattle.stage2.specs.Searched.{takes, keeps, fails}
+use Rattle.stage2.specs.SearchLaws.{takes, keeps, fails}
 use Rattle.zint.specs.RuleLaws.{zneeds}
 use Rattle.stage2.proofs.consider.Statement.{statement}
 use Rattle.stage2.proofs.consider.Tie as tie

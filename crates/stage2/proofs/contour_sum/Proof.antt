@@ -12,7 +12,7 @@ use Rattle.silk_tables.specs.Tables.{offset2, moved-lag2}
 use Rattle.silk_tables.specs.Stage2Laws.{moved2-is, moved2-fits}
 use Rattle.stage2.specs.Scores.{sum, contour-sum}
 use Rattle.stage2.specs.ScoreLaws.{sum-next, sum-small, moved-in}
-use Rattle.stage2.specs.Searched.{at2}
+use Rattle.stage2.specs.Search.{at2}
 use Rattle.zint.specs.RuleLaws.{zneeds}
 use Rattle.stage2.proofs.contour_sum.Statement.{statement}
 use Rattle.stage2.proofs.contour_sum.Tie as tie

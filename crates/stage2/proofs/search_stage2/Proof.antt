@@ -12,23 +12,23 @@ use Rattle.lists.specs.Fill.{tabulate}
 use Rattle.lists.specs.FillLaws.{filled-none, filled-turn}
 use Rattle.best.specs.Best.{some}
 use Rattle.stage2_correlations.specs.Marks.{measured}
-use Rattle.stage2_correlations.specs.Correlations.{target, correlation, zero-reached}
-use Rattle.stage2_correlations.specs.declared.Row.{Row}
-use Rattle.stage2_correlations.specs.Rows.{row}
-use Rattle.stage2_correlations.specs.RowLaws.{row-kept, zero-lags}
-use Rattle.stage2.specs.ScoreLaws.{Small}
+use Rattle.stage2_correlations.specs.Correlations.{target2, correlation2, zero-reached2}
+use Rattle.stage2_correlations.specs.declared.SubframeRow.{SubframeRow}
+use Rattle.stage2_correlations.specs.Rows.{subframe-row}
+use Rattle.stage2_correlations.specs.RowLaws.{subframe-row-kept, zero-in2, zero-row}
 use Rattle.stage2.specs.declared.Stage2.the-variants.{ZeroDivisor}
-use Rattle.stage2.specs.Stage2.{picked}
+use Rattle.stage2.specs.Stage2.{picked, search-by}
 use Rattle.stage2.specs.NumberLaws.{and-numbers}
 use Rattle.silk_tables.specs.TableLaws.{two-to-four}
-use Rattle.stage2.specs.Searched.{at2, rows, rows-small, stage2-picked, stage2-zero}
+use Rattle.stage2.specs.Search.{at2, SixteenBits}
+use Rattle.stage2.specs.SearchLaws.{rows, rows-small, stage2-picked, stage2-zero}
 use Rattle.zint.specs.RuleLaws.{zneeds}
 use Rattle.stage2.proofs.search_stage2.Statement.{statement}
 use Rattle.stage2.proofs.search_stage2.Tie as tie
 
 abbrev Inv-loop : tie.InvT-loop
 Inv-loop frame-8khz kept fs-khz nb-subfr complexity search-thres2-q13 prev-lag prev-corr marks c-8khz₀ k₀ c-8khz k =
-    (k ≤ nb-subfr) × ((marks ≡ tabulate (λ (i : ℕ). measured kept (14 + i)) 132) × (((q : ℕ) → q < k → some 145 (zero-reached frame-8khz kept q) ≡ false) × (c-8khz ≡ rows frame-8khz kept k)))
+    (k ≤ nb-subfr) × ((marks ≡ tabulate (λ (i : ℕ). measured kept (14 + i)) 132) × (((q : ℕ) → q < k → zero-in2 frame-8khz kept q ≡ false) × (c-8khz ≡ rows frame-8khz kept k)))
 
 abbrev μ-loop : tie.MeasureT-loop
 μ-loop frame-8khz kept fs-khz nb-subfr complexity search-thres2-q13 prev-lag prev-corr marks c-8khz₀ k₀ c-8khz k =
@@ -39,7 +39,7 @@ unfolding rows
 loop-holds c = (omega arith, (c .measured-lags .ensures, (λ q l. absurd (omega arith), filled-none _ _)))
 
 subframe-row-requires : tie.Need-subframe-row-requires Inv-loop μ-loop
-unfolding target
+unfolding target2
 subframe-row-requires c κs =
     let h = c .before .before .before .before .before .pre in
     (omega (arith, two-to-four (h .subframes)), omega (arith, h .long))
@@ -58,11 +58,11 @@ module _ (c : tie.After-subframe-row Inv-loop μ-loop) where
   abbrev lags : List ℕ
   lags = start .args .kept .now
 
-  row-is : c .subframe-row .result ≡ record { zero = some 132 (λ i. zero-reached e lags (here .loop .k) (14 + i)); c = tabulate (λ i. correlation e lags (here .loop .k) (14 + i)) 132 }
-  row-is = c .subframe-row .ensures ∙ ap (λ (m : List Bool). row e m (here .loop .k)) (here .loop .inv .1 .0) ∙ row-kept e lags (here .loop .k)
+  row-is : c .subframe-row .result ≡ record { zero = some 132 (λ i. zero-reached2 e lags (here .loop .k) (14 + i)); c = tabulate (λ i. correlation2 e lags (here .loop .k) (14 + i)) 132 }
+  row-is = c .subframe-row .ensures ∙ ap (λ (m : List Bool). subframe-row e m (here .loop .k)) (here .loop .inv .1 .0) ∙ subframe-row-kept e lags (here .loop .k)
 
-  zero-is : some 145 (zero-reached e lags (here .loop .k)) ≡ c .subframe-row .result .zero
-  zero-is = sym (ap (λ (r : Row). r .zero) row-is ∙ zero-lags e lags (here .loop .k))
+  zero-is : zero-in2 e lags (here .loop .k) ≡ c .subframe-row .result .zero
+  zero-is = sym (ap (λ (r : SubframeRow). r .zero) row-is ∙ zero-row e lags (here .loop .k))
 
 returns : tie.Need-returns Inv-loop μ-loop
 returns c =
@@ -83,13 +83,13 @@ loop-again c =
     let d = c .before .before in
     let l = here d .loop in
     let h = two-to-four (start d .pre .subframes) in
-    let f : ℕ → List ℤ = λ k. tabulate (λ i. correlation (e d) (lags d) k (14 + i)) 132 in (
+    let f : ℕ → List ℤ = λ k. tabulate (λ i. correlation2 (e d) (lags d) k (14 + i)) 132 in (
       omega arith,
       (
         l .inv .1 .0,
         (
-          below-more (λ (q : ℕ). some 145 (zero-reached (e d) (lags d) q) ≡ false) (l .k) (l .inv .1 .1 .0) (zero-is d ∙ c .before .if1 .left),
-          filled-turn f (l .k) (replicate 4 (replicate 132 (pos 0))) (l .inv .1 .1 .1) (ap (λ (r : Row). r .c) (row-is d)) (omega arith),
+          below-more (λ (q : ℕ). zero-in2 (e d) (lags d) q ≡ false) (l .k) (l .inv .1 .1 .0) (zero-is d ∙ c .before .if1 .left),
+          filled-turn f (l .k) (replicate 4 (replicate 132 (pos 0))) (l .inv .1 .1 .1) (ap (λ (r : SubframeRow). r .c) (row-is d)) (omega arith),
         ),
       ),
     )
@@ -103,7 +103,7 @@ winner-requires c κs =
     let k : l .loop .k ≡ a .nb-subfr = omega arith in
     let r = l .loop .inv .1 .1 .1 ∙ ap (rows (a .frame-8khz .now) (a .kept .now)) k in
     record {
-      small = subst (λ (x : List (List ℤ)). Small (at2 x) (a .nb-subfr)) (sym r) (rows-small (a .frame-8khz .now) (a .kept .now) (a .nb-subfr));
+      small = subst (λ (x : List (List ℤ)). SixteenBits (at2 x) (a .nb-subfr)) (sym r) (rows-small (a .frame-8khz .now) (a .kept .now) (a .nb-subfr));
       lags = s .pre .lags;
       subframes = s .pre .subframes;
       at-least = h .0;
@@ -120,7 +120,7 @@ returns-2 c =
     let r = l .loop .inv .1 .1 .1 ∙ ap (rows (a .frame-8khz .now) (a .kept .now)) k in
     and-numbers _ _ _ _ _ _ _ _ (c .winner .result)
     (c .winner .ensures
-    ∙ (λ t. picked (at2 (r t)) (a .kept .now) (a .fs-khz) (a .nb-subfr) (a .complexity) (r-var (f .search-thres2-q13) .val t) (r-var (f .prev-lag) .val t) (r-var (f .prev-corr) .val t))
+    ∙ (λ t. picked (search-by (at2 (r t)) (a .kept .now) (a .fs-khz) (a .nb-subfr) (a .complexity) (r-var (f .search-thres2-q13) .val t) (r-var (f .prev-lag) .val t) (r-var (f .prev-corr) .val t)))
     ∙ stage2-picked (a .frame-8khz .now) (a .kept .now) (a .fs-khz) (a .nb-subfr) (a .complexity) (a .search-thres2-q13) (a .prev-lag) (a .prev-corr) (λ q h. l .loop .inv .1 .1 .0 q (omega arith)))
 
 pub search-stage2-spec : {M : Type 1} → statement M

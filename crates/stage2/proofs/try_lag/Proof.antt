@@ -7,12 +7,27 @@ use mir.Val.{toZ, ofZ}
 use Rattle.zint.specs.ReadLaws.{r-var, r-got}
 use Rattle.silk_macros.specs.Log.{lin2log}
 use Rattle.stage2.specs.declared.Along.{Along}
-use Rattle.stage2.specs.Scores.{best-contour, lag-sum, biased, score}
+use Rattle.stage2.specs.Scores.{best-contour, lag-sum, Search2, biased2, score2}
 use Rattle.stage2.specs.ScoreLaws.{log-small, lag-small}
-use Rattle.stage2.specs.Searched.{at2, along, considered, tried-listed, tried-not}
+use Rattle.stage2.specs.Search.{at2, along, considered}
+use Rattle.stage2.specs.SearchLaws.{with-listed, with-unlisted}
 use Rattle.zint.specs.RuleLaws.{zneeds}
 use Rattle.stage2.proofs.try_lag.Statement.{statement}
 use Rattle.stage2.proofs.try_lag.Tie as tie
+
+-- the search that the arguments make
+abbrev search-in : tie.Start → Search2
+search-in s =
+    let a = s .args in
+    record {
+      correlations = at2 (a .c-8khz .now);
+      kept = a .kept .now;
+      subframes = a .nb-subfr;
+      contours = a .nb-cbk-search;
+      threshold = a .thres;
+      prev-lag = a .prev-lag-8khz;
+      prev-corr = a .prev-corr;
+    }
 
 -- the lag's sum, as the code holds it
 module _ (c : tie.After-struct-told) where
@@ -44,19 +59,19 @@ biased-score-requires c κs =
     (lag-small (array c) (s .args .nb-subfr) (s .args .d) (h .small) (h .low) (h .high) (s .args .nb-cbk-search) (h .at-most), (h .at-most, (h .high, log-small (s .args .prev-lag-8khz))))
 
 returns : tie.Need-returns
-unfolding score
+unfolding score2
 returns c =
     let d = c .before .before in
     let s = start d in
     let a = s .args in
     let f = c .before .biased-score in
-    let e = r-got w32 (f .ok) (f .ensures ∙ (λ t. biased (summed d t) (a .nb-subfr) (a .d) (r-var (s .fits .prev-lag-8khz) .val t) (prev-log d t) (r-var (s .fits .prev-corr) .val t))) .val in
+    let e = r-got w32 (f .ok) (f .ensures ∙ (λ t. biased2 (summed d t) (a .nb-subfr) (a .d) (r-var (s .fits .prev-lag-8khz) .val t) (prev-log d t) (r-var (s .fits .prev-corr) .val t))) .val in
     c .consider .ensures
     ∙ (λ t. considered (a .best) (a .d) (summed d t) (contour-so d t) (e t) (r-var (s .fits .thres) .val t))
-    ∙ tried-listed (array d) (a .kept .now) (a .nb-subfr) (a .nb-cbk-search) (a .thres) (a .prev-lag-8khz) (a .prev-corr) (a .d) (a .best) (sym (d .before .before .before .is-listed .ensures) ∙ d .before .before .if1 .taken)
+    ∙ with-listed (search-in s) (a .d) (a .best) (sym (d .before .before .before .is-listed .ensures) ∙ d .before .before .if1 .taken)
 
 returns-2 : tie.Need-returns-2
-returns-2 c = let a = c .before .before .before .args in tried-not (at2 (a .c-8khz .now)) (a .kept .now) (a .nb-subfr) (a .nb-cbk-search) (a .thres) (a .prev-lag-8khz) (a .prev-corr) (a .d) (a .best) (sym (c .before .is-listed .ensures) ∙ c .if1 .left)
+returns-2 c = let s = c .before .before .before in with-unlisted (search-in s) (s .args .d) (s .args .best) (sym (c .before .is-listed .ensures) ∙ c .if1 .left)
 
 pub try-lag-spec : {M : Type 1} → statement M
 try-lag-spec =

@@ -4,8 +4,8 @@ use native.Mathlib.Omega.{arith}
 use mir.Syntax.{w32}
 use Rattle.zint.specs.ReadLaws.{r-var, r-got}
 use Rattle.silk_tables.specs.Stage2Laws.{contours2-bounds, contours2-le}
-use Rattle.stage2.specs.Scores.{threshold, prev-8khz}
-use Rattle.stage2.specs.Searched.{at2, Upto, upto-picked}
+use Rattle.stage2.specs.Scores.{threshold2, prev-8khz}
+use Rattle.stage2.specs.Search.{at2, BestOfAll}
 use Rattle.zint.specs.RuleLaws.{zneeds}
 use Rattle.stage2.proofs.winner.Statement.{statement}
 use Rattle.stage2.proofs.winner.Tie as tie
@@ -31,9 +31,19 @@ returns c =
     let g = d .previous-8khz in
     let p = r-got w32 (g .ok) (g .ensures ∙ ap (prev-8khz (a .fs-khz)) (r-var (f .prev-lag) .val)) .val in
     let u = transport
-    (λ t. Upto (at2 (a .c-8khz .now)) (a .kept .now) (a .nb-subfr) (d .before .nb-cbk-search-stage2 .ensures t) (threshold (a .nb-subfr) (r-var (f .search-thres2-q13) .val t)) (p t) (r-var (f .prev-corr) .val t) 128 (c .before .pick-lag .result))
+    (λ t. BestOfAll
+    (record {
+      correlations = at2 (a .c-8khz .now);
+      kept = a .kept .now;
+      subframes = a .nb-subfr;
+      contours = d .before .nb-cbk-search-stage2 .ensures t;
+      threshold = threshold2 (a .nb-subfr) (r-var (f .search-thres2-q13) .val t);
+      prev-lag = p t;
+      prev-corr = r-var (f .prev-corr) .val t;
+    })
+    (c .before .pick-lag .result))
     (c .before .pick-lag .ensures) in
-    c .answer .ensures ∙ upto-picked (at2 (a .c-8khz .now)) (a .kept .now) (a .fs-khz) (a .nb-subfr) (a .complexity) (a .search-thres2-q13) (a .prev-lag) (a .prev-corr) (c .before .pick-lag .result) u
+    c .answer .ensures ∙ u .answer
 
 pub winner-spec : {M : Type 1} → statement M
 winner-spec =

@@ -14,36 +14,37 @@ use Rattle.zint.specs.ReadLaws.{Reads, r-got, r-elem, r-lit, r-call2}
 use Rattle.lists.specs.Fill.{filled}
 use Rattle.lists.specs.FillLaws.{filled-none, filled-turn, filled-all}
 use Rattle.best.specs.Best.{some}
+use Rattle.silk_sigproc.specs.Dot.{energy-sum}
 use Rattle.stage2_correlations.specs.declared.Ratio.{Ratio}
-use Rattle.stage2_correlations.specs.Correlations.{target as start-of, divisor}
-use Rattle.stage2_correlations.specs.Rows.{energy-from, value-at, zero-at, row}
-use Rattle.stage2_correlations.specs.RowLaws.{norm-is, energy-back, at-lag-is, some-more, some-same}
+use Rattle.stage2_correlations.specs.Correlations.{target2 as start-of, divisor2}
+use Rattle.stage2_correlations.specs.Rows.{value-at, zero-at, subframe-row}
+use Rattle.stage2_correlations.specs.RowLaws.{divisor-is, energy-back, at-lag-is, some-more, some-same}
 use Rattle.zint.specs.RuleLaws.{zneeds}
 use Rattle.stage2_correlations.proofs.subframe_row.Statement.{statement}
 use Rattle.stage2_correlations.proofs.subframe_row.Tie as tie
 
 abbrev Inv-loop : tie.InvT-loop
 Inv-loop frame-8khz k marks target energy-target energy-basis₀ c-8khz₀ zero₀ i₀ energy-basis c-8khz zero i =
-    (i ≤ 132) × ((target ≡ start-of k) × ((toZ w32 energy-target ≡ wrap w32 (wrap w32 (energy-from frame-8khz (start-of k)) +ℤ pos 1)) × ((toZ w32 energy-basis ≡ wrap w32 (energy-from frame-8khz (start-of k - (14 + i)))) × ((c-8khz ≡ filled (value-at frame-8khz marks k) i (replicate 132 (pos 0))) × (zero ≡ some i (zero-at frame-8khz marks k))))))
+    (i ≤ 132) × ((target ≡ start-of k) × ((toZ w32 energy-target ≡ wrap w32 (wrap w32 (energy-sum frame-8khz (start-of k) 40) +ℤ pos 1)) × ((toZ w32 energy-basis ≡ wrap w32 (energy-sum frame-8khz (start-of k - (14 + i)) 40)) × ((c-8khz ≡ filled (value-at frame-8khz marks k) i (replicate 132 (pos 0))) × (zero ≡ some i (zero-at frame-8khz marks k))))))
 
 abbrev μ-loop : tie.MeasureT-loop
 μ-loop frame-8khz k marks target energy-target energy-basis₀ c-8khz₀ zero₀ i₀ energy-basis c-8khz zero i = 132 - i
 
-energy-requires : tie.Need-energy-requires Inv-loop μ-loop
+energy-from-requires : tie.Need-energy-from-requires Inv-loop μ-loop
 unfolding start-of
-energy-requires c κs = c .pre .1
+energy-from-requires c κs = c .pre .1
 
-energy-requires-2 : tie.Need-energy-requires-2 Inv-loop μ-loop
+energy-from-requires-2 : tie.Need-energy-from-requires-2 Inv-loop μ-loop
 unfolding start-of
-energy-requires-2 c κs = omega arith
+energy-from-requires-2 c κs = omega arith
 
 loop-holds : tie.Need-loop-holds Inv-loop μ-loop
 unfolding start-of some
 loop-holds c =
-    let a = c .before .before .energy in
+    let a = c .before .before .energy-from in
     let b = c .before .wrapping-add-i32 in
     let t = r-call2 w32 (λ (x y : ℤ). wrap w32 (x +ℤ y)) (b .ok) (r-got w32 (a .ok) (a .ensures)) (r-lit w32 1 tt) (b .ensures) .val in
-    let u = r-got w32 (c .energy2 .ok) (c .energy2 .ensures) .val in
+    let u = r-got w32 (c .energy-from2 .ok) (c .energy-from2 .ensures) .val in
     (omega arith, (refl, (t, (u, (filled-none _ _, refl)))))
 
 correlate-requires : tie.Need-correlate-requires Inv-loop μ-loop
@@ -69,10 +70,10 @@ module _ (c : tie.After-correlate Inv-loop μ-loop) where
   abbrev e : List ℤ
   e = start .args .frame-8khz .now
 
-  normed : Reads w32 (ofZ w32 (c .before .before .wrapping-add-i322 .result)) (divisor e (start .args .k) (14 + here .loop .i))
+  normed : Reads w32 (ofZ w32 (c .before .before .wrapping-add-i322 .result)) (divisor2 e (start .args .k) (14 + here .loop .i))
   normed =
       let f = c .before .before .wrapping-add-i322 in
-      r-got w32 (f .ok) (f .ensures ∙ ap₂ (λ (x y : ℤ). wrap w32 (x +ℤ y)) (here .loop .inv .1 .1 .0) (here .loop .inv .1 .1 .1 .0) ∙ norm-is e (start .args .k) (14 + here .loop .i))
+      r-got w32 (f .ok) (f .ensures ∙ ap₂ (λ (x y : ℤ). wrap w32 (x +ℤ y)) (here .loop .inv .1 .1 .0) (here .loop .inv .1 .1 .1 .0) ∙ divisor-is e (start .args .k) (14 + here .loop .i))
 
   correlated : c .correlate .result ≡ record { zero = zero-at e (start .args .marks .now) (start .args .k) (here .loop .i); value = value-at e (start .args .marks .now) (start .args .k) (here .loop .i) }
   unfolding start-of
@@ -99,8 +100,8 @@ loop-again c =
     let y = r-got w32 (c .slide .ok)
     (c .slide .ensures
     ∙ ap₂ (λ (g h : ℤ). wrap w32 (z -ℤ g *ℤ g +ℤ h *ℤ h)) gone come
-    ∙ energy-back e b z (inv .1 .1 .0 ∙ ap (λ (n : ℕ). wrap w32 (energy-from e n)) (sym after))
-    ∙ ap (λ (n : ℕ). wrap w32 (energy-from e n)) next) .val in
+    ∙ energy-back e b z (inv .1 .1 .0 ∙ ap (λ (n : ℕ). wrap w32 (energy-sum e n 40)) (sym after))
+    ∙ ap (λ (n : ℕ). wrap w32 (energy-sum e n 40)) next) .val in
     let r = correlated (d .before .before) in
     let v = stored (d .before) ∙ ap (λ (x : Ratio). x .value) r in
     let f = zero-at e (a .marks .now) (a .k) in
@@ -113,7 +114,7 @@ loop-again c =
     )
 
 returns : tie.Need-returns Inv-loop μ-loop
-unfolding row
+unfolding subframe-row
 returns c =
     let s = c .before in
     let a = s .before .before .before .before .args in
@@ -128,7 +129,7 @@ returns c =
 pub subframe-row-spec : {M : Type 1} → statement M
 subframe-row-spec =
     tie.close
-    (tie.spec Inv-loop μ-loop (λ c. search zneeds) (λ c. search zneeds) energy-requires (λ c κs. search zneeds) (λ c. search zneeds) energy-requires-2
+    (tie.spec Inv-loop μ-loop (λ c. search zneeds) (λ c. search zneeds) energy-from-requires (λ c κs. search zneeds) (λ c. search zneeds) energy-from-requires-2
     loop-holds (λ c κs. search zneeds) (λ c. search zneeds) (λ c. search zneeds) correlate-requires (λ c. search zneeds) (λ c. search zneeds)
     (λ c. search zneeds) (λ c. search zneeds) (λ c. search zneeds) (λ c. search zneeds) shared-slice-copy-out-slide (λ c. search zneeds)
     shared-slice-copy-out-slide-2 (λ c κs. search zneeds) (λ c. search zneeds) (λ c. search zneeds) loop-again returns)
