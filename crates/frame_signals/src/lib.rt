@@ -1,4 +1,5 @@
 // The signals that the stages read: the working frame, and its forms at 8 and 4 kHz.
+// The functions are our cut of the source: `silk_pitch_analysis_core` (pitch_analysis.rs) does all this in its lines 138 to 199. The kernels and decimators are the source's.
 ghost use mathlib.Core.Path.{_≡_};
 ghost use Prim.Native.Nat.{_*_, _/_, _^_, _≤_, _<_};
 ghost use lib.ListN.{length, take};

@@ -1,4 +1,6 @@
 // Stage 1 of the pitch analyser: the lags at 4 kHz that go on to stage 2.
+// The functions are our cut of the source: `silk_pitch_analysis_core` (pitch_analysis.rs) does all this in its lines 201 to 290. The macros, kernels and the sort are the
+// source's, and so are the names of constants and variables.
 ghost use mathlib.Core.Path.{_≡_};
 ghost use mathlib.Core.List.{[]};
 ghost use mathlib.Core.Logic.{_⊎_};
@@ -24,6 +26,7 @@ use silk_sort::silk_insertion_sort_decreasing_int16;
 use zint::as_i16;
 use zint::wrapping_add_i32;
 
+// Samples of a subframe at 4 and at 8 kHz, and the lags at 4 kHz.
 const SF_LENGTH_4KHZ: usize = 20;
 
 const SF_LENGTH_8KHZ: usize = 40;

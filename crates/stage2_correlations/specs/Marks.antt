@@ -13,13 +13,17 @@ mark-near kept below above d i = leb (2 * getD kept i 0) (d + below) && leb d (2
 unfoldable pub near : List ℕ → ℕ → ℕ → ℕ → Bool
 near kept below above d = some (length kept) (mark-near kept below above d)
 
+-- the same, within the ends
+unfoldable pub marked : List ℕ → ℕ → ℕ → ℕ → ℕ → ℕ → Bool
+marked kept below above low high d = leb low d && (leb d high && near kept below above d)
+
 -- "lags v - 1 to v + 1 are listed if within 16 to 143"
 unfoldable pub listed : List ℕ → ℕ → Bool
-listed kept d = leb 16 d && (leb d 143 && near kept 1 1 d)
+listed kept d = marked kept 1 1 16 143 d
 
 -- "and v - 2 to v + 3 measured if within 14 to 144"
 unfoldable pub measured : List ℕ → ℕ → Bool
-measured kept d = leb 14 d && (leb d 144 && near kept 2 3 d)
+measured kept d = marked kept 2 3 14 144 d
 
 -- what stage 1 hands over: at most 4 + 2 × 2 lags, each from 8 to 72
 pub record Kept (kept : List ℕ) : Type 0 where

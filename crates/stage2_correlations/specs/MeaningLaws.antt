@@ -9,7 +9,7 @@ use lib.Dec.{leb}
 use lib.ListN.{length, getD, length-append}
 use Rattle.best.specs.Best.{some}
 use Rattle.best.specs.BestLaws.{some-find}
-use Rattle.stage2_correlations.specs.Marks.{mark-near, near, listed, measured, Kept}
+use Rattle.stage2_correlations.specs.Marks.{mark-near, near, marked, listed, measured, Kept}
 use Rattle.stage2_correlations.specs.Meaning.{Marked, Listed, Measured}
 use Rattle.zint.specs.BoolLaws.{and-left, and-right}
 use Rattle.stage2_correlations.specs.MarkLaws.{mark-yes, near-yes, inside}
@@ -17,13 +17,14 @@ use Rattle.stage2_correlations.specs.MarkLaws.{mark-yes, near-yes, insid
 -- ---- the marks and the words
 
 module _ (kept : List ℕ) (below above low high d : ℕ) where
-  of-marked : Marked kept below above low high d → (leb low d && (leb d high && near kept below above d)) ≡ true
+  of-marked : Marked kept below above low high d → marked kept below above low high d ≡ true
+  unfolding marked
   of-marked m =
       inside low high d (near kept below above d) (m .at-least) (m .at-most)
       ∙ near-yes kept below above d (m .which) (m .is-kept) (mark-yes kept below above d (m .which) (m .not-below) (m .not-above))
 
-  to-marked : (leb low d && (leb d high && near kept below above d)) ≡ true → Marked kept below above low high d
-  unfolding near mark-near
+  to-marked : marked kept below above low high d ≡ true → Marked kept below above low high d
+  unfolding marked near mark-near
   to-marked e =
       let r = and-right (leb low d) (leb d high && near kept below above d) e in
       let q = some-find (length kept) (mark-near kept below above d) (and-right (leb d high) (near kept below above d) r) in
@@ -53,15 +54,15 @@ passing (suc n) t = passing n t ++ cond (t n) (n ∷ []) []
 -- ---- "L = 8 lists 16, 17 and measures 14 to 19; L = 40 lists 79 to 81, measures 78 to 83; L = 72 lists 143, measures 142 to 144."
 
 pub marks-of-8 : (passing 200 (listed (8 ∷ [])) ≡ 16 ∷ 17 ∷ []) × (passing 200 (measured (8 ∷ [])) ≡ 14 ∷ 15 ∷ 16 ∷ 17 ∷ 18 ∷ 19 ∷ [])
-unfolding passing listed measured near mark-near some
+unfolding passing listed measured marked near mark-near some
 marks-of-8 = (refl, refl)
 
 pub marks-of-40 : (passing 200 (listed (40 ∷ [])) ≡ 79 ∷ 80 ∷ 81 ∷ []) × (passing 200 (measured (40 ∷ [])) ≡ 78 ∷ 79 ∷ 80 ∷ 81 ∷ 82 ∷ 83 ∷ [])
-unfolding passing listed measured near mark-near some
+unfolding passing listed measured marked near mark-near some
 marks-of-40 = (refl, refl)
 
 pub marks-of-72 : (passing 200 (listed (72 ∷ [])) ≡ 143 ∷ []) × (passing 200 (measured (72 ∷ [])) ≡ 142 ∷ 143 ∷ 144 ∷ [])
-unfolding passing listed measured near mark-near some
+unfolding passing listed measured marked near mark-near some
 marks-of-72 = (refl, refl)
 
 -- ---- "At most 24 are listed."
@@ -143,7 +144,7 @@ of-some kept n (suc k) =
     omega (arith, either n (λ d. some k (mark-near kept 1 1 d)) (λ d. mark-near kept 1 1 d k), of-some kept n k, three (2 * getD kept k 0) n)
 
 pub at-most-24 : (kept : List ℕ) → Kept kept → (n : ℕ) → length (passing n (listed kept)) ≤ 24
-unfolding listed near
+unfolding listed marked near
 at-most-24 kept r n =
     let h = fewer n (listed kept) (near kept 1 1) (λ d e. and-right (leb d 143) (near kept 1 1 d) (and-right (leb 16 d) (leb d 143 && near kept 1 1 d) e)) in
     omega (arith, h, of-some kept n (length kept), r .few)

@@ -24,7 +24,7 @@ use Rattle.silk_macros.specs.declared.Quotient.{Quotient}
 use Rattle.silk_macros.specs.declared.Quotient.the-variants.{Value, ZeroDivisor}
 use Rattle.silk_sigproc.specs.Dot.{dot, energy-sum}
 use Rattle.silk_sigproc.specs.DotLaws.{dot-slide}
-use Rattle.stage2_correlations.specs.Marks.{near, measured}
+use Rattle.stage2_correlations.specs.Marks.{near, marked, measured}
 use Rattle.stage2_correlations.specs.MarkLaws.{too-high}
 use Rattle.stage2_correlations.specs.Correlations.{target2, cross-sum2, target-energy2, basis-energy2, divisor-sum2, cross2, divisor2, quotient2, correlation2, zero-reached2, divisors2, subframe-no, lag-no2, zero2}
 use Rattle.stage2_correlations.specs.Rows.{reached, ratio-of, at-lag, value-at, zero-at, subframe-row}
@@ -125,7 +125,7 @@ zero2-subframes e kept nb = some-pairs nb 131 (λ k i. zero-reached2 e kept k (1
 
 -- the last lag of a row, 145, is never measured
 pub zero-row : (e : List ℤ) (kept : List ℕ) (k : ℕ) → some 132 (λ i. zero-reached2 e kept k (14 + i)) ≡ zero-in2 e kept k
-unfolding zero-in2 zero-reached2 measured
+unfolding zero-in2 zero-reached2 measured marked
 zero-row e kept k =
     let l : 144 < 145 = lit< tt in
     let h : zero-reached2 e kept k 145 ≡ false = ap (λ (t : Bool). t && (ltZ (pos 0) (cross2 e k 145) && by-zero (quotient2 e k 145))) (too-high 14 144 145 (near kept 2 3 145) l) in

@@ -1,4 +1,6 @@
 // Stage 2's measurements at 8 kHz: the lags that stage 1's kept lags list and measure, and a subframe's correlations by lag.
+// The functions are our cut of the source: `silk_pitch_analysis_core` (pitch_analysis.rs) marks the lags in its lines 292 to 331 and measures in its lines 333 to 392, all
+// subframes in one array. The macros and kernels are the source's, and so are the names of constants and variables.
 ghost use mathlib.Core.Path.{_≡_};
 ghost use Prim.Native.Nat.{ℕ, _+_, _≤_, _<_};
 ghost use lib.IntN.{_+ℤ_, _-ℤ_, _*ℤ_};
@@ -6,7 +8,7 @@ ghost use lib.ListN.{length};
 ghost use mir.Syntax.{w32};
 ghost use Rattle.zint.specs.Wrap.{wrap};
 ghost use Rattle.lists.specs.Fill.{tabulate};
-ghost use Rattle.stage2_correlations.specs.Marks.{near, listed, measured, Kept};
+ghost use Rattle.stage2_correlations.specs.Marks.{near, marked, listed, measured, Kept};
 ghost use Rattle.stage2_correlations.specs.Correlations.{target2};
 ghost use Rattle.stage2_correlations.specs.Rows.{ratio-of, at-lag, subframe-row};
 use silk_macros::Quotient;
@@ -18,13 +20,16 @@ use zint::as_i16;
 use zint::wrapping_add_i32;
 use zint::wrapping_sub_i32;
 
+// The least lag at 8 kHz that stage 2 can choose.
 pub const MIN_LAG_8KHZ: usize = 16;
 
+// The greatest lag at 8 kHz that stage 2 can choose.
 pub const MAX_LAG_8KHZ: usize = 143;
 
+// The samples of a subframe at 8 kHz.
 pub const SF_LENGTH_8KHZ: usize = 40;
 
-// A lag's correlation, and whether its divisor was reached and is zero.
+// A lag's correlation at Q14, cut to 16 bits, and whether its divisor was reached and is zero.
 pub struct Ratio {
     pub zero: bool,
     pub value: i16,
@@ -53,30 +58,34 @@ fn is_near(kept: &[usize], d: usize, below: usize, above: usize) -> bool
     false
 }
 
+// The same, within the ends low and high.
+fn is_marked(kept: &[usize], d: usize, below: usize, above: usize, low: usize, high: usize) -> bool
+    requires { ⌜ Kept (now kept) × ((d ≤ 145) × ((below ≤ 2) × (above ≤ 3))) ⌝ }
+    ensures { λ r. ⌜ r ≡ marked (now (kept .entry)) below above low high d ⌝ }
+{
+    if d < low {
+        return false;
+    }
+    if d > high {
+        return false;
+    }
+    is_near(kept, d, below, above)
+}
+
+// Whether stage 2 can choose the lag d: it lies within 1 of the double of a kept lag, and within 16 to 143.
 pub fn is_listed(kept: &[usize], d: usize) -> bool
     requires { ⌜ Kept (now kept) × (d ≤ 145) ⌝ }
     ensures { λ r. ⌜ r ≡ listed (now (kept .entry)) d ⌝ }
 {
-    if d < MIN_LAG_8KHZ {
-        return false;
-    }
-    if d > MAX_LAG_8KHZ {
-        return false;
-    }
-    is_near(kept, d, 1, 1)
+    is_marked(kept, d, 1, 1, MIN_LAG_8KHZ, MAX_LAG_8KHZ)
 }
 
+// Whether the lag d is measured: it lies from 2 below to 3 above the double of a kept lag, and within 14 to 144.
 fn is_measured(kept: &[usize], d: usize) -> bool
     requires { ⌜ Kept (now kept) × (d ≤ 145) ⌝ }
     ensures { λ r. ⌜ r ≡ measured (now (kept .entry)) d ⌝ }
 {
-    if d < MIN_LAG_8KHZ - 2 {
-        return false;
-    }
-    if d > MAX_LAG_8KHZ + 1 {
-        return false;
-    }
-    is_near(kept, d, 2, 3)
+    is_marked(kept, d, 2, 3, MIN_LAG_8KHZ - 2, MAX_LAG_8KHZ + 1)
 }
 
 // Which of the lags 14 to 145 are measured.

@@ -8,15 +8,6 @@ use Rattle.frame_signals.specs.SignalLaws.{two-tap-four}
 use Rattle.frame_signals.proofs.frame_4khz.Statement.{statement}
 use Rattle.frame_signals.proofs.frame_4khz.Tie as tie
 
-halve-into-requires : tie.Need-halve-into-requires
-halve-into-requires c κs = search needs
-
-two-tap-sum-requires : tie.Need-two-tap-sum-requires
-two-tap-sum-requires c κs = search needs
-
-same-length : tie.Need-same-length
-same-length c = search needs
-
 returns : tie.Need-returns
 returns c =
     let d = c .before .before .before .before in
@@ -25,4 +16,4 @@ returns c =
     c .before .two-tap-sum .ensures ∙ two-tap-four e (d .halve-into .last .1 .0) (a .out .now) (d .halve-into .ensures) (length e / 2) (down2-length e)
 
 pub frame-4khz-spec : {M : Type 1} → statement M
-frame-4khz-spec = tie.close (tie.spec halve-into-requires two-tap-sum-requires same-length returns)
+frame-4khz-spec = tie.close (tie.spec (λ c κs. search needs) (λ c κs. search needs) (λ c. search needs) returns)

@@ -9,12 +9,6 @@ use Rattle.frame_signals.specs.Scale.{down-shift}
 use Rattle.frame_signals.proofs.frame_shift.Statement.{statement}
 use Rattle.frame_signals.proofs.frame_shift.Tie as tie
 
-silk-sum-sqr-shift-requires : tie.Need-silk-sum-sqr-shift-requires
-silk-sum-sqr-shift-requires c κs = search needs
-
-bits-over-requires : tie.Need-bits-over-requires
-bits-over-requires c κs = search needs
-
 over-lt : (c : tie.After-bits-over) → c .bits-over .result < 31
 over-lt c =
     let s = c .before .silk-sum-sqr-shift in
@@ -31,4 +25,4 @@ returns c =
 
 pub frame-shift-spec : {M : Type 1} → statement M
 frame-shift-spec =
-    tie.close (tie.spec silk-sum-sqr-shift-requires bits-over-requires add-result returns)
+    tie.close (tie.spec (λ c κs. search needs) (λ c κs. search needs) add-result returns)

@@ -40,10 +40,6 @@ known c =
 same : (c : tie.After-known-told Inv-loop μ-loop) → toZ w32 (ofZ w32 (c .before .q .given .0 .0)) ≡ c .before .q .given .0 .0
 same c = search zneeds
 
-shared-slice-copy-out-silk-div32-varq :
-    tie.Need-shared-slice-copy-out-silk-div32-varq Inv-loop μ-loop
-shared-slice-copy-out-silk-div32-varq c = search zneeds
-
 returns : tie.Need-returns Inv-loop μ-loop
 returns c =
     let d = c .before .before in
@@ -83,6 +79,6 @@ pub quotients-spec : {M : Type 1} → statement M
 quotients-spec =
     tie.close
     (tie.spec Inv-loop μ-loop loop-holds (λ c. search zneeds) (λ c. search zneeds) (λ c. search zneeds) (λ c. search zneeds) (λ c. search zneeds)
-    shared-slice-copy-out-silk-div32-varq (λ c κs. search zneeds) (λ c. search zneeds) (λ c. search zneeds) (λ c. search zneeds) returns
+    (λ c. search zneeds) (λ c κs. search zneeds) (λ c. search zneeds) (λ c. search zneeds) (λ c. search zneeds) returns
     (λ c κs. search zneeds) (λ c. search zneeds) (λ c. search zneeds) (λ c. search zneeds) (λ c. search zneeds) loop-again (λ c. search zneeds)
     returns-2)

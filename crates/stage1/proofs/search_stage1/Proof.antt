@@ -31,14 +31,6 @@ returns c =
     let s = t .before .before in
     in-both _ _ _ _ (c .stop .ensures ∙ stage1-zero _ _ _ _ (sym (s .scores .ensures .zero-is) ∙ t .if1 .taken))
 
-slice-aggregate-silk-insertion-sort-decreasing-int16 :
-    tie.Need-slice-aggregate-silk-insertion-sort-decreasing-int16
-slice-aggregate-silk-insertion-sort-decreasing-int16 c = search zneeds
-
-slice-aggregate-silk-insertion-sort-decreasing-int16-2 :
-    tie.Need-slice-aggregate-silk-insertion-sort-decreasing-int16-2
-slice-aggregate-silk-insertion-sort-decreasing-int16-2 c = search zneeds
-
 silk-insertion-sort-decreasing-int16-requires :
     tie.Need-silk-insertion-sort-decreasing-int16-requires
 silk-insertion-sort-decreasing-int16-requires c κs = let k = length-in (c .before .before) in search zneeds
@@ -72,5 +64,5 @@ pub search-stage1-spec : {M : Type 1} → statement M
 search-stage1-spec =
     tie.close
     (tie.spec (λ c. search zneeds) (λ c κs. search zneeds) (λ c κs. search zneeds) returns (λ c κs. search zneeds)
-    slice-aggregate-silk-insertion-sort-decreasing-int16 slice-aggregate-silk-insertion-sort-decreasing-int16-2
+    (λ c. search zneeds) (λ c. search zneeds)
     silk-insertion-sort-decreasing-int16-requires (λ c. search zneeds) (λ c. search zneeds) select-requires returns-2)

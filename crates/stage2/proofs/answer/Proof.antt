@@ -25,9 +25,6 @@ returns c =
     let b = c .before .args .best in
     sym (ap (λ (t : Bool). cond t Unvoiced (Winner (b .lag) (b .contour) (quotZ (b .cc) (pos (c .before .args .nb-subfr)) *ℤ pos 4))) (eq-eqb (b .lag) 0 (c .if1 .taken)))
 
-cast-silk-div32-16 : tie.Need-cast-silk-div32-16
-cast-silk-div32-16 c = search zneeds
-
 summed : (c : tie.After-struct-told) → toZ w32 (ofZ w32 (c .before .before .args .best .cc)) ≡ c .before .before .args .best .cc
 summed c = search zneeds
 
@@ -40,9 +37,6 @@ silk-div32-16-requires c κs =
     let n = s .args .nb-subfr in
     rw (summed c, r-nat w32 n (omega arith) .val)
     (λ e. let z : n ≡ 0 = ap natAbs e in omega arith, abs-fits (quotZ (s .args .best .cc) (pos n)) tt (shared s))
-
-silk-lshift-requires : tie.Need-silk-lshift-requires
-silk-lshift-requires c κs = search zneeds
 
 returns-2 : tie.Need-returns-2
 unfolding best-answer
@@ -58,4 +52,4 @@ returns-2 c =
     ∙ sym (ap (λ (t : Bool). cond t Unvoiced (Winner (b .lag) (b .contour) (q *ℤ pos 4))) (ne-eqb (b .lag) 0 (d .before .before .if1 .left)))
 
 pub answer-spec : {M : Type 1} → statement M
-answer-spec = tie.close (tie.spec returns cast-silk-div32-16 silk-div32-16-requires silk-lshift-requires returns-2)
+answer-spec = tie.close (tie.spec returns (λ c. search zneeds) silk-div32-16-requires (λ c κs. search zneeds) returns-2)

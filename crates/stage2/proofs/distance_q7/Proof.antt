@@ -17,12 +17,6 @@ apart c = abs-fits (c .args .lag-log2-q7 -ℤ c .args .prev-lag-log2-q7) tt (abs
 sub-delta : tie.Need-sub-delta
 sub-delta c = f-sub (r-var (c .fits .lag-log2-q7)) (r-var (c .fits .prev-lag-log2-q7)) (apart c)
 
-silk-smulbb-requires : tie.Need-silk-smulbb-requires
-silk-smulbb-requires c κs = search zneeds
-
-silk-rshift-requires : tie.Need-silk-rshift-requires
-silk-rshift-requires c κs = search zneeds
-
 returns : tie.Need-returns
 unfolding distance
 returns c =
@@ -31,4 +25,4 @@ returns c =
     r-call1 w32 (λ (x : ℤ). shrZ x 128) (c .silk-rshift .ok) (r-call2 w32 smulbb (c .before .silk-smulbb .ok) d d (c .before .silk-smulbb .ensures)) (c .silk-rshift .ensures) .val
 
 pub distance-q7-spec : {M : Type 1} → statement M
-distance-q7-spec = tie.close (tie.spec sub-delta silk-smulbb-requires silk-rshift-requires returns)
+distance-q7-spec = tie.close (tie.spec sub-delta (λ c κs. search zneeds) (λ c κs. search zneeds) returns)
