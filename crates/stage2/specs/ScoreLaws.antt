@@ -129,34 +129,34 @@ prev-bias-le nb corr dist h = quot-bias-le _ dist (wrap-fits w32 _) h
 
 -- ---- the score's steps fit, and it is above the least number
 
-module _ (cc : ℤ) (nb d : ℕ) (prev prev-log corr : ℤ) (h : natAbs cc ≤ 131072) where
+module _ (cc : ℤ) (nb d : ℕ) (prev corr : ℤ) (h : natAbs cc ≤ 131072) where
   pub less-lag-bias : natAbs (cc -ℤ lag-bias nb (lin2log (pos d))) ≤ 8519680
   less-lag-bias = abs-sub {A = 131072} {B = 8388608} cc (lag-bias nb (lin2log (pos d))) h (lag-bias-le nb (lin2log (pos d)))
 
-  pub less-prev-bias : natAbs (cc -ℤ lag-bias nb (lin2log (pos d)) -ℤ prev-bias nb corr (distance (lin2log (pos d)) prev-log)) ≤ 42074112
+  pub less-prev-bias : natAbs (cc -ℤ lag-bias nb (lin2log (pos d)) -ℤ prev-bias nb corr (distance (lin2log (pos d)) (lin2log prev))) ≤ 42074112
   less-prev-bias =
-      abs-sub {A = 8519680} {B = 33554432} (cc -ℤ lag-bias nb (lin2log (pos d))) (prev-bias nb corr (distance (lin2log (pos d)) prev-log)) less-lag-bias
-      (prev-bias-le nb corr (distance (lin2log (pos d)) prev-log) (distance-low (lin2log (pos d)) prev-log))
+      abs-sub {A = 8519680} {B = 33554432} (cc -ℤ lag-bias nb (lin2log (pos d))) (prev-bias nb corr (distance (lin2log (pos d)) (lin2log prev))) less-lag-bias
+      (prev-bias-le nb corr (distance (lin2log (pos d)) (lin2log prev)) (distance-low (lin2log (pos d)) (lin2log prev)))
 
   sub-zero : (z : ℤ) → z -ℤ pos 0 ≡ z
   sub-zero z = ring (v z ⊖ num 0) (v z) (omega arith)
 
   -- by the test on the previous lag
   pub biased-yes : ltZ (pos 0) prev ≡ true
-      → cc -ℤ lag-bias nb (lin2log (pos d)) -ℤ prev-bias nb corr (distance (lin2log (pos d)) prev-log) ≡ biased2 cc nb d prev prev-log corr
+      → cc -ℤ lag-bias nb (lin2log (pos d)) -ℤ prev-bias nb corr (distance (lin2log (pos d)) (lin2log prev)) ≡ biased2 cc nb d prev corr
   unfolding biased2
   biased-yes e =
-      sym (ap (λ (t : Bool). cc -ℤ lag-bias nb (lin2log (pos d)) -ℤ sel t (prev-bias nb corr (distance (lin2log (pos d)) prev-log)) (pos 0)) e)
+      sym (ap (λ (t : Bool). cc -ℤ lag-bias nb (lin2log (pos d)) -ℤ sel t (prev-bias nb corr (distance (lin2log (pos d)) (lin2log prev))) (pos 0)) e)
 
-  pub biased-no : ltZ (pos 0) prev ≡ false → cc -ℤ lag-bias nb (lin2log (pos d)) ≡ biased2 cc nb d prev prev-log corr
+  pub biased-no : ltZ (pos 0) prev ≡ false → cc -ℤ lag-bias nb (lin2log (pos d)) ≡ biased2 cc nb d prev corr
   unfolding biased2
   biased-no e =
-      sym (ap (λ (t : Bool). cc -ℤ lag-bias nb (lin2log (pos d)) -ℤ sel t (prev-bias nb corr (distance (lin2log (pos d)) prev-log)) (pos 0)) e ∙ sub-zero (cc -ℤ lag-bias nb (lin2log (pos d))))
+      sym (ap (λ (t : Bool). cc -ℤ lag-bias nb (lin2log (pos d)) -ℤ sel t (prev-bias nb corr (distance (lin2log (pos d)) (lin2log prev))) (pos 0)) e ∙ sub-zero (cc -ℤ lag-bias nb (lin2log (pos d))))
 
-  pub biased-le : natAbs (biased2 cc nb d prev prev-log corr) ≤ 42074112
+  pub biased-le : natAbs (biased2 cc nb d prev corr) ≤ 42074112
   biased-le = by (ltZ (pos 0) prev) refl
     where
-      by : (t : Bool) → ltZ (pos 0) prev ≡ t → natAbs (biased2 cc nb d prev prev-log corr) ≤ 42074112
+      by : (t : Bool) → ltZ (pos 0) prev ≡ t → natAbs (biased2 cc nb d prev corr) ≤ 42074112
       by true e = rw (← biased-yes e) less-prev-bias
       by false e = rw (← biased-no e) (omega (arith, less-lag-bias))
 
@@ -182,8 +182,8 @@ pub score-above : (s : Search2) (d : ℕ) → SixteenBits (s .correlations) (s .
 unfolding score2
 score-above s d small f l h =
     let sum = lag-sum (s .correlations) (s .subframes) (s .contours) d in
-    above (biased2 sum (s .subframes) d (s .prev-lag) (lin2log (s .prev-lag)) (s .prev-corr))
-    (biased-le sum (s .subframes) d (s .prev-lag) (lin2log (s .prev-lag)) (s .prev-corr) (lag-small (s .correlations) (s .subframes) d small l h (s .contours) f))
+    above (biased2 sum (s .subframes) d (s .prev-lag) (s .prev-corr))
+    (biased-le sum (s .subframes) d (s .prev-lag) (s .prev-corr) (lag-small (s .correlations) (s .subframes) d small l h (s .contours) f))
 
 -- the contour that is best by comparison
 pub contour-is : (c : ℕ → ℕ → ℤ) (nb m d p : ℕ) → BestOf m (λ j. true) (contour-sum c nb d) p → best-contour c nb m d ≡ p
@@ -221,7 +221,7 @@ module _ (s : Search2) (c : ℕ → ℕ → ℤ) (a : Agree (s .correlations) c 
   pub score-ext : score2 s d ≡ score2 (with-correlations s c) d
   unfolding score2
   score-ext =
-      ap (λ (z : ℤ). biased2 z (s .subframes) d (s .prev-lag) (lin2log (s .prev-lag)) (s .prev-corr)) (lag-sum-ext (s .correlations) c (s .subframes) a d l h (s .contours))
+      ap (λ (z : ℤ). biased2 z (s .subframes) d (s .prev-lag) (s .prev-corr)) (lag-sum-ext (s .correlations) c (s .subframes) a d l h (s .contours))
 
 -- ---- the threshold is the source's product
 

@@ -80,10 +80,9 @@ unfoldable pub prev-bias : ℕ → ℤ → ℤ → ℤ
 prev-bias nb corr dist = quotZ (wrap w32 (shrZ (smulbb (pos (nb * 1638)) corr) 32768 *ℤ dist)) (dist +ℤ pos 64)
 
 -- a sum less the two biases; there is a previous lag where it is positive
-unfoldable pub biased2 : ℤ → ℕ → ℕ → ℤ → ℤ → ℤ → ℤ
-biased2 cc nb d prev prev-log corr =
-    cc -ℤ lag-bias nb (lin2log (pos d)) -ℤ sel (ltZ (pos 0) prev) (prev-bias nb corr (distance (lin2log (pos d)) prev-log)) (pos 0)
+unfoldable pub biased2 : ℤ → ℕ → ℕ → ℤ → ℤ → ℤ
+biased2 cc nb d prev corr =
+    cc -ℤ lag-bias nb (lin2log (pos d)) -ℤ sel (ltZ (pos 0) prev) (prev-bias nb corr (distance (lin2log (pos d)) (lin2log prev))) (pos 0)
 
 unfoldable pub score2 : Search2 → ℕ → ℤ
-score2 s d =
-    biased2 (lag-sum (s .correlations) (s .subframes) (s .contours) d) (s .subframes) d (s .prev-lag) (lin2log (s .prev-lag)) (s .prev-corr)
+score2 s d = biased2 (lag-sum (s .correlations) (s .subframes) (s .contours) d) (s .subframes) d (s .prev-lag) (s .prev-corr)

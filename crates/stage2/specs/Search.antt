@@ -9,12 +9,14 @@ use lib.Dec.{eqb}
 use lib.IntN.{ℤ, pos, natAbs, _*ℤ_}
 use lib.ListN.{getD}
 use lib.Signed.{ltZ, quotZ}
+use Rattle.silk_tables.specs.Tables.{entries2, contours2}
 use Rattle.stage2_correlations.specs.Marks.{Kept, listed}
 use Rattle.stage2.specs.declared.Stage2.{Stage2}
 use Rattle.stage2.specs.declared.Stage2.the-variants.{Unvoiced, Winner}
 use Rattle.stage2.specs.declared.Along.{Along}
 use Rattle.stage2.specs.declared.BestLag.{BestLag}
-use Rattle.stage2.specs.Scores.{best-contour, lag-sum, Search2, score2}
+use Rattle.stage2.specs.declared.LagSearch.{LagSearch}
+use Rattle.stage2.specs.Scores.{best-contour, lag-sum, Search2, threshold2, prev-8khz, score2}
 use Rattle.stage2.specs.Stage2.{picked}
 
 -- ---- what is handed over
@@ -42,6 +44,28 @@ pub record HandedLag (c : List (List ℤ)) (nb d : ℕ) : Type 0 where
   pub at-most : nb ≤ 4
   pub low : 16 ≤ d
   pub high : d ≤ 143
+
+-- at least one contour is tried, and no more than the codebook has
+pub record ContoursTried (by : LagSearch) : Type 0 where
+  pub some-tried : 0 < by .contours
+  pub in-codebook : by .contours ≤ entries2 (by .nb)
+
+-- what the search goes by, from the settings and the previous lag and correlation; and the search itself, in an array of correlations
+abbrev pub lag-search : ℕ → ℕ → ℕ → ℤ → ℤ → ℤ → LagSearch
+lag-search fs nb cx thres2 prev corr =
+    record { nb = nb; contours = contours2 fs nb cx; thres = threshold2 nb thres2; prev = prev-8khz fs prev; corr = corr }
+
+abbrev pub search-in : List (List ℤ) → List ℕ → LagSearch → Search2
+search-in c kept by =
+    record {
+      correlations = at2 c;
+      kept = kept;
+      subframes = by .nb;
+      contours = by .contours;
+      threshold = by .thres;
+      prev-lag = by .prev;
+      prev-corr = by .corr;
+    }
 
 -- ---- what is answered
 

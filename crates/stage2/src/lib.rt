@@ -6,12 +6,11 @@ ghost use Prim.Native.Nat.{_≤_, _<_};
 ghost use lib.IntN.{pos, natAbs};
 ghost use lib.Signed.{_≤ℤ_};
 ghost use Rattle.answers.specs.Answer.{answer-numbers};
-ghost use Rattle.silk_macros.specs.Log.{lin2log};
 ghost use Rattle.silk_tables.specs.Tables.{entries2};
 ghost use Rattle.stage2_correlations.specs.Marks.{Kept};
-ghost use Rattle.stage2.specs.Scores.{contour-sum, prev-8khz, distance, prev-bias, biased2, threshold2};
-ghost use Rattle.stage2.specs.Stage2.{search-by, picked, stage2, stage2-numbers, stage2-verdict, stage2-values, Handed2};
-ghost use Rattle.stage2.specs.Search.{at2, HandedLag, HandedSearch, along, considered, best-with, best-answer, BestOfAll};
+ghost use Rattle.stage2.specs.Scores.{contour-sum, prev-8khz, distance, prev-bias, biased2};
+ghost use Rattle.stage2.specs.Stage2.{stage2, stage2-numbers, stage2-verdict, stage2-values, Handed2};
+ghost use Rattle.stage2.specs.Search.{at2, HandedLag, HandedSearch, ContoursTried, along, considered, lag-search, search-in, best-with, best-answer, BestOfAll};
 use silk_macros::silk_div32;
 use silk_macros::silk_div32_16;
 use silk_macros::silk_lin2log;
@@ -48,6 +47,16 @@ pub struct BestLag {
     pub cc: i32,
     pub lag: usize,
     pub contour: usize,
+}
+
+// What the search goes by besides the correlations and the kept lags: how many subframes there are and how many contours are tried, what a lag's sum has to be above, and the
+// previous lag at 8 kHz with its correlation.
+pub struct LagSearch {
+    pub nb: usize,
+    pub contours: usize,
+    pub thres: i32,
+    pub prev: i32,
+    pub corr: i32,
 }
 
 // The correlations along contour j of the lag d, added up over the subframes.
@@ -122,20 +131,14 @@ fn prev_lag_bias(nb_subfr: usize, prev_corr: i32, delta_lag_log2_sqr_q7: i32) ->
 }
 
 // A lag's sum, marked down for a long lag and for its distance from the previous one.
-fn biased_score(
-    cc: i32,
-    nb_subfr: usize,
-    d: usize,
-    prev_lag_8khz: i32,
-    prev_lag_log2_q7: i32,
-    prev_corr: i32,
-) -> i32
-    requires { ⌜ (natAbs cc ≤ 131072) × ((«nb_subfr» ≤ 4) × ((d ≤ 143) × (natAbs «prev_lag_log2_q7» ≤ 4096))) ⌝ }
-    ensures { λ r. ⌜ r ≡ biased2 cc «nb_subfr» d «prev_lag_8khz» «prev_lag_log2_q7» «prev_corr» ⌝ }
+fn biased_score(cc: i32, nb_subfr: usize, d: usize, prev_lag_8khz: i32, prev_corr: i32) -> i32
+    requires { ⌜ (natAbs cc ≤ 131072) × ((«nb_subfr» ≤ 4) × (d ≤ 143)) ⌝ }
+    ensures { λ r. ⌜ r ≡ biased2 cc «nb_subfr» d «prev_lag_8khz» «prev_corr» ⌝ }
 {
     let lag_log2_q7 = silk_lin2log(d as i32);
     let cc_max_new_b = cc - silk_rshift(silk_smulbb((nb_subfr * 410) as i32, lag_log2_q7), 7);
     if prev_lag_8khz > 0 {
+        let prev_lag_log2_q7 = silk_lin2log(prev_lag_8khz);
         let delta_lag_log2_sqr_q7 = distance_q7(lag_log2_q7, prev_lag_log2_q7);
         cc_max_new_b - prev_lag_bias(nb_subfr, prev_corr, delta_lag_log2_sqr_q7)
     } else {
@@ -166,43 +169,28 @@ fn try_lag(
     best: BestLag,
     c_8khz: &[[i16; 132]; 4],
     kept: &[usize],
-    nb_subfr: usize,
-    nb_cbk_search: usize,
+    by: LagSearch,
     d: usize,
-    thres: i32,
-    prev_lag_8khz: i32,
-    prev_lag_log2_q7: i32,
-    prev_corr: i32,
 ) -> BestLag
-    requires { ⌜ HandedLag (now «c_8khz») «nb_subfr» d × ((0 < «nb_cbk_search») × («nb_cbk_search» ≤ entries2 «nb_subfr»)) ⌝ }
-    requires { ⌜ Kept (now kept) × («prev_lag_log2_q7» ≡ lin2log «prev_lag_8khz») ⌝ }
-    ensures { λ r. ⌜ r ≡ best-with (record { correlations = at2 (now («c_8khz» .entry)); kept = now (kept .entry); subframes = «nb_subfr»; contours = «nb_cbk_search»; threshold = thres; prev-lag = «prev_lag_8khz»; prev-corr = «prev_corr» }) d best ⌝ }
+    requires { ⌜ HandedLag (now «c_8khz») (by .nb) d × ContoursTried by ⌝ }
+    requires { ⌜ Kept (now kept) ⌝ }
+    ensures { λ r. ⌜ r ≡ best-with (search-in (now («c_8khz» .entry)) (now (kept .entry)) by) d best ⌝ }
 {
     if is_listed(kept, d) {
-        let found = best_contour(c_8khz, nb_subfr, nb_cbk_search, d);
+        let found = best_contour(c_8khz, by.nb, by.contours, d);
         let cc = found.cc;
-        let score = biased_score(cc, nb_subfr, d, prev_lag_8khz, prev_lag_log2_q7, prev_corr);
-        consider(best, d, cc, found.contour, score, thres)
+        let score = biased_score(cc, by.nb, d, by.prev, by.corr);
+        consider(best, d, cc, found.contour, score, by.thres)
     } else {
         best
     }
 }
 
 // The lags 16 to 143, rising.
-fn pick_lag(
-    c_8khz: &[[i16; 132]; 4],
-    kept: &[usize],
-    nb_subfr: usize,
-    nb_cbk_search: usize,
-    search_thres2_q13: i32,
-    prev_lag_8khz: i32,
-    prev_corr: i32,
-) -> BestLag
-    requires { ⌜ HandedSearch (now «c_8khz») (now kept) «nb_subfr» × ((0 < «nb_cbk_search») × («nb_cbk_search» ≤ entries2 «nb_subfr»)) ⌝ }
-    ensures { λ r. ⌜ BestOfAll (record { correlations = at2 (now («c_8khz» .entry)); kept = now (kept .entry); subframes = «nb_subfr»; contours = «nb_cbk_search»; threshold = threshold2 «nb_subfr» «search_thres2_q13»; prev-lag = «prev_lag_8khz»; prev-corr = «prev_corr» }) r ⌝ }
+fn pick_lag(c_8khz: &[[i16; 132]; 4], kept: &[usize], by: LagSearch) -> BestLag
+    requires { ⌜ HandedSearch (now «c_8khz») (now kept) (by .nb) × ContoursTried by ⌝ }
+    ensures { λ r. ⌜ BestOfAll (search-in (now («c_8khz» .entry)) (now (kept .entry)) by) r ⌝ }
 {
-    let thres = silk_smulbb(nb_subfr as i32, search_thres2_q13);
-    let prev_lag_log2_q7 = silk_lin2log(prev_lag_8khz);
     let mut best = BestLag {
         top: -2147483648,
         cc: 0,
@@ -210,18 +198,7 @@ fn pick_lag(
         contour: 0,
     };
     for d in 16..144 {
-        best = try_lag(
-            best,
-            c_8khz,
-            kept,
-            nb_subfr,
-            nb_cbk_search,
-            d,
-            thres,
-            prev_lag_8khz,
-            prev_lag_log2_q7,
-            prev_corr,
-        );
+        best = try_lag(best, c_8khz, kept, by, d);
     }
     best
 }
@@ -243,32 +220,25 @@ fn answer(best: BestLag, nb_subfr: usize) -> Stage2
     }
 }
 
-// The winner among the passing lags, from the correlations.
-fn winner(
-    c_8khz: &[[i16; 132]; 4],
-    kept: &[usize],
+// What the search goes by, from the settings and the previous lag and correlation.
+fn lag_search(
     fs_khz: usize,
     nb_subfr: usize,
     complexity: usize,
     search_thres2_q13: i32,
     prev_lag: i32,
     prev_corr: i32,
-) -> Stage2
-    requires { ⌜ HandedSearch (now «c_8khz») (now kept) «nb_subfr» ⌝ }
-    ensures { λ r. ⌜ r ≡ picked (search-by (at2 (now («c_8khz» .entry))) (now (kept .entry)) «fs_khz» «nb_subfr» complexity «search_thres2_q13» «prev_lag» «prev_corr») ⌝ }
+) -> LagSearch
+    requires { ⌜ «nb_subfr» ≤ 4 ⌝ }
+    ensures { λ r. ⌜ r ≡ lag-search «fs_khz» «nb_subfr» complexity «search_thres2_q13» «prev_lag» «prev_corr» ⌝ }
 {
-    let nb_cbk_search = nb_cbk_search_stage2(fs_khz, nb_subfr, complexity);
-    let prev_lag_8khz = previous_8khz(fs_khz, prev_lag);
-    let best = pick_lag(
-        c_8khz,
-        kept,
-        nb_subfr,
-        nb_cbk_search,
-        search_thres2_q13,
-        prev_lag_8khz,
-        prev_corr,
-    );
-    answer(best, nb_subfr)
+    LagSearch {
+        nb: nb_subfr,
+        contours: nb_cbk_search_stage2(fs_khz, nb_subfr, complexity),
+        thres: silk_smulbb(nb_subfr as i32, search_thres2_q13),
+        prev: previous_8khz(fs_khz, prev_lag),
+        corr: prev_corr,
+    }
 }
 
 // Stage 2: the winner with its contour and correlation, unvoiced, or a zero divisor.
@@ -296,14 +266,13 @@ pub fn search_stage2(
         let c = row.c;
         c_8khz[k] = c;
     }
-    winner(
-        &c_8khz,
-        kept,
+    let by = lag_search(
         fs_khz,
         nb_subfr,
         complexity,
         search_thres2_q13,
         prev_lag,
         prev_corr,
-    )
+    );
+    answer(pick_lag(&c_8khz, kept, by), nb_subfr)
 }

@@ -25,16 +25,16 @@ module _ (s : tie.Start) where
   less = s .args .cc -ℤ lag-bias (s .args .nb-subfr) log
 
   abbrev far : ℤ
-  far = distance log (s .args .prev-lag-log2-q7)
+  far = distance log (lin2log (s .args .prev-lag-8khz))
 
   abbrev near : ℤ
   near = prev-bias (s .args .nb-subfr) (s .args .prev-corr) far
 
   less-fits : SFits w32 less
-  less-fits = abs-fits less tt (less-lag-bias (s .args .cc) (s .args .nb-subfr) (s .args .d) (s .args .prev-lag-8khz) (s .args .prev-lag-log2-q7) (s .args .prev-corr) (s .pre .0))
+  less-fits = abs-fits less tt (less-lag-bias (s .args .cc) (s .args .nb-subfr) (s .args .d) (s .args .prev-lag-8khz) (s .args .prev-corr) (s .pre .0))
 
   all-fits : SFits w32 (less -ℤ near)
-  all-fits = abs-fits (less -ℤ near) tt (less-prev-bias (s .args .cc) (s .args .nb-subfr) (s .args .d) (s .args .prev-lag-8khz) (s .args .prev-lag-log2-q7) (s .args .prev-corr) (s .pre .0))
+  all-fits = abs-fits (less -ℤ near) tt (less-prev-bias (s .args .cc) (s .args .nb-subfr) (s .args .d) (s .args .prev-lag-8khz) (s .args .prev-corr) (s .pre .0))
 
 log-read : (c : tie.After-silk-lin2log) → Reads w32 (ofZ w32 (c .silk-lin2log .result)) (log (c .before))
 log-read c = r-call1 w32 lin2log (c .silk-lin2log .ok) (r-nat w32 (c .before .args .d) (omega arith)) (c .silk-lin2log .ensures)
@@ -55,41 +55,44 @@ module _ (c : tie.After-silk-rshift) where
 sub-cc-max-new-b : tie.Need-sub-cc-max-new-b
 sub-cc-max-new-b c = f-sub (r-var (start c .fits .cc)) (long-read c) (less-fits (start c))
 
+prev-log-read : (c : tie.After-silk-lin2log2) → Reads w32 (ofZ w32 (c .silk-lin2log2 .result)) (lin2log (start (c .before .before) .args .prev-lag-8khz))
+prev-log-read c = r-call1 w32 lin2log (c .silk-lin2log2 .ok) (r-var (start (c .before .before) .fits .prev-lag-8khz)) (c .silk-lin2log2 .ensures)
+
 distance-q7-requires : tie.Need-distance-q7-requires
 distance-q7-requires c κs =
-    let s = start (c .before) in
-    rw (log-read (c .before .before .before) .val, r-var (s .fits .prev-lag-log2-q7) .val) (log-small (pos (s .args .d)), s .pre .1 .1 .1)
-
-far-read : (c : tie.After-distance-q7) → Reads w32 (ofZ w32 (c .distance-q7 .result)) (far (start (c .before .before)))
-far-read c =
     let r = c .before .before in
-    r-call2 w32 distance (c .distance-q7 .ok) (log-read (r .before .before)) (r-var (start r .fits .prev-lag-log2-q7)) (c .distance-q7 .ensures)
+    rw (log-read (r .before .before) .val, prev-log-read c .val) (log-small (pos (start r .args .d)), log-small (start r .args .prev-lag-8khz))
+
+far-read : (c : tie.After-distance-q7) → Reads w32 (ofZ w32 (c .distance-q7 .result)) (far (start (c .before .before .before)))
+far-read c =
+    let r = c .before .before .before in
+    r-call2 w32 distance (c .distance-q7 .ok) (log-read (r .before .before)) (prev-log-read (c .before)) (c .distance-q7 .ensures)
 
 prev-lag-bias-requires : tie.Need-prev-lag-bias-requires
-prev-lag-bias-requires c κs = rw (far-read c .val) (start (c .before .before) .pre .1 .0, (distance-low _ _, distance-high _ _))
+prev-lag-bias-requires c κs = rw (far-read c .val) (start (c .before .before .before) .pre .1 .0, (distance-low _ _, distance-high _ _))
 
-near-read : (c : tie.After-prev-lag-bias) → Reads w32 (ofZ w32 (c .prev-lag-bias .result)) (near (start (c .before .before .before)))
+near-read : (c : tie.After-prev-lag-bias) → Reads w32 (ofZ w32 (c .prev-lag-bias .result)) (near (start (c .before .before .before .before)))
 near-read c =
-    let s = start (c .before .before .before) in
+    let s = start (c .before .before .before .before) in
     r-call2 w32 (prev-bias (s .args .nb-subfr)) (c .prev-lag-bias .ok) (r-var (s .fits .prev-corr)) (far-read (c .before)) (c .prev-lag-bias .ensures)
 
 sub-result : tie.Need-sub-result
-sub-result c = let r = c .before .before .before in f-sub (less-read r) (near-read c) (all-fits (start r))
+sub-result c = let r = c .before .before .before .before in f-sub (less-read r) (near-read c) (all-fits (start r))
 
 returns : tie.Need-returns
 returns c =
-    let r = c .before .before .before in
+    let r = c .before .before .before .before in
     let s = start r in
     r-sub (less-read r) (near-read c) (all-fits s) .val
-    ∙ biased-yes (s .args .cc) _ _ _ _ _ (s .pre .0) (t-above (pos 0) (r-var (s .fits .prev-lag-8khz)) (c .before .before .if1 .taken))
+    ∙ biased-yes (s .args .cc) _ _ _ _ (s .pre .0) (t-above (pos 0) (r-var (s .fits .prev-lag-8khz)) (c .before .before .before .if1 .taken))
 
 returns-2 : tie.Need-returns-2
 returns-2 c =
     let s = start (c .before) in
-    less-read (c .before) .val ∙ biased-no (s .args .cc) _ _ _ _ _ (s .pre .0) (t-above (pos 0) (r-var (s .fits .prev-lag-8khz)) (c .if1 .left))
+    less-read (c .before) .val ∙ biased-no (s .args .cc) _ _ _ _ (s .pre .0) (t-above (pos 0) (r-var (s .fits .prev-lag-8khz)) (c .if1 .left))
 
 pub biased-score-spec : {M : Type 1} → statement M
 biased-score-spec =
     tie.close
     (tie.spec (λ c. search zneeds) (λ c κs. search zneeds) (λ c. search zneeds) (λ c. search zneeds) (λ c κs. search zneeds) (λ c κs. search zneeds)
-    sub-cc-max-new-b distance-q7-requires prev-lag-bias-requires sub-result returns returns-2)
+    sub-cc-max-new-b (λ c κs. search zneeds) distance-q7-requires prev-lag-bias-requires sub-result returns returns-2)

@@ -1,5 +1,5 @@
 -- `stage2::search_stage2` meets its contract.
-use mathlib.Core.Path.{_≡_, sym, ap, _∙_, subst}
+use mathlib.Core.Path.{_≡_, sym, ap, _∙_, subst, transport}
 use mathlib.Core.Bool.{Bool, false}
 use mathlib.Core.List.{List}
 use Prim.Native.Nat.{ℕ, _+_, _-_, _≤_, _<_}
@@ -17,10 +17,11 @@ use Rattle.stage2_correlations.specs.declared.SubframeRow.{SubframeRow}
 use Rattle.stage2_correlations.specs.Rows.{subframe-row}
 use Rattle.stage2_correlations.specs.RowLaws.{subframe-row-kept, zero-in2, zero-row}
 use Rattle.stage2.specs.declared.Stage2.the-variants.{ZeroDivisor}
-use Rattle.stage2.specs.Stage2.{picked, search-by}
 use Rattle.stage2.specs.NumberLaws.{and-numbers}
 use Rattle.silk_tables.specs.TableLaws.{two-to-four}
-use Rattle.stage2.specs.Search.{at2, SixteenBits}
+use Rattle.silk_tables.specs.Stage2Laws.{contours2-bounds, contours2-le}
+use Rattle.stage2.specs.Search.{at2, SixteenBits, HandedSearch, ContoursTried, lag-search, search-in, BestOfAll}
+use Rattle.stage2.specs.declared.LagSearch.{LagSearch}
 use Rattle.stage2.specs.SearchLaws.{rows, rows-small, stage2-picked, stage2-zero}
 use Rattle.zint.specs.RuleLaws.{zneeds}
 use Rattle.stage2.proofs.search_stage2.Statement.{statement}
@@ -94,37 +95,67 @@ loop-again c =
       ),
     )
 
-winner-requires : tie.Need-winner-requires Inv-loop μ-loop
-winner-requires c κs =
-    let l = c .before .before in
-    let s = l .before .before .before in
+-- what the search goes by, and the array it reads
+module _ (c : tie.After-lag-search Inv-loop μ-loop) where
+  abbrev at-end : tie.At-loop Inv-loop μ-loop
+  at-end = c .before .before
+
+  abbrev begun : tie.Start Inv-loop μ-loop
+  begun = at-end .before .before .before
+
+  abbrev by : LagSearch
+  by = let a = begun .args in lag-search (a .fs-khz) (a .nb-subfr) (a .complexity) (a .search-thres2-q13) (a .prev-lag) (a .prev-corr)
+
+  by-is : c .lag-search .result ≡ by
+  by-is =
+      let a = begun .args in
+      let f = begun .fits in
+      c .lag-search .ensures
+      ∙ (λ t. lag-search (a .fs-khz) (a .nb-subfr) (a .complexity) (r-var (f .search-thres2-q13) .val t) (r-var (f .prev-lag) .val t) (r-var (f .prev-corr) .val t))
+
+  rows-are : at-end .loop .c-8khz ≡ rows (begun .args .frame-8khz .now) (begun .args .kept .now) (begun .args .nb-subfr)
+  rows-are =
+      let k : at-end .loop .k ≡ begun .args .nb-subfr = omega arith in
+      at-end .loop .inv .1 .1 .1 ∙ ap (rows (begun .args .frame-8khz .now) (begun .args .kept .now)) k
+
+lag-search-requires : tie.Need-lag-search-requires Inv-loop μ-loop
+lag-search-requires c κs = two-to-four (c .before .before .before .before .pre .subframes) .1
+
+pick-lag-requires : tie.Need-pick-lag-requires Inv-loop μ-loop
+pick-lag-requires c κs =
+    let d = c .before in
+    let s = begun d in
     let a = s .args in
     let h = two-to-four (s .pre .subframes) in
-    let k : l .loop .k ≡ a .nb-subfr = omega arith in
-    let r = l .loop .inv .1 .1 .1 ∙ ap (rows (a .frame-8khz .now) (a .kept .now)) k in
-    record {
-      small = subst (λ (x : List (List ℤ)). SixteenBits (at2 x) (a .nb-subfr)) (sym r) (rows-small (a .frame-8khz .now) (a .kept .now) (a .nb-subfr));
-      lags = s .pre .lags;
-      subframes = s .pre .subframes;
-      at-least = h .0;
-      at-most = h .1;
-    }
+    let b = contours2-bounds (a .fs-khz) (a .nb-subfr) (a .complexity) in
+    let l = contours2-le (a .fs-khz) (a .nb-subfr) (a .complexity) in
+    subst (λ (y : LagSearch). HandedSearch (at-end d .loop .c-8khz) (a .kept .now) (y .nb) × ContoursTried y) (sym (by-is d)) (
+      record {
+        small = subst (λ (x : List (List ℤ)). SixteenBits (at2 x) (a .nb-subfr)) (sym (rows-are d)) (rows-small (a .frame-8khz .now) (a .kept .now) (a .nb-subfr));
+        lags = s .pre .lags;
+        subframes = s .pre .subframes;
+        at-least = h .0;
+        at-most = h .1;
+      },
+      record { some-tried = omega arith; in-codebook = omega arith },
+    )
+
+answer-requires : tie.Need-answer-requires Inv-loop μ-loop
+answer-requires c κs = (c .pick-lag .ensures .small, two-to-four (begun (c .before .before) .pre .subframes))
 
 returns-2 : tie.Need-returns-2 Inv-loop μ-loop
 returns-2 c =
-    let l = c .before .before .before in
-    let s = l .before .before .before in
-    let a = s .args in
-    let f = s .fits in
-    let k : l .loop .k ≡ a .nb-subfr = omega arith in
-    let r = l .loop .inv .1 .1 .1 ∙ ap (rows (a .frame-8khz .now) (a .kept .now)) k in
-    and-numbers _ _ _ _ _ _ _ _ (c .winner .result)
-    (c .winner .ensures
-    ∙ (λ t. picked (search-by (at2 (r t)) (a .kept .now) (a .fs-khz) (a .nb-subfr) (a .complexity) (r-var (f .search-thres2-q13) .val t) (r-var (f .prev-lag) .val t) (r-var (f .prev-corr) .val t)))
-    ∙ stage2-picked (a .frame-8khz .now) (a .kept .now) (a .fs-khz) (a .nb-subfr) (a .complexity) (a .search-thres2-q13) (a .prev-lag) (a .prev-corr) (λ q h. l .loop .inv .1 .1 .0 q (omega arith)))
+    let p = c .before in
+    let d = p .before .before in
+    let a = begun d .args in
+    let u = transport (λ t. BestOfAll (search-in (rows-are d t) (a .kept .now) (by-is d t)) (p .pick-lag .result)) (p .pick-lag .ensures) in
+    and-numbers _ _ _ _ _ _ _ _ (c .answer .result)
+    (c .answer .ensures
+    ∙ u .answer
+    ∙ stage2-picked (a .frame-8khz .now) (a .kept .now) (a .fs-khz) (a .nb-subfr) (a .complexity) (a .search-thres2-q13) (a .prev-lag) (a .prev-corr) (λ q h. at-end d .loop .inv .1 .1 .0 q (omega arith)))
 
 pub search-stage2-spec : {M : Type 1} → statement M
 search-stage2-spec =
     tie.close
     (tie.spec Inv-loop μ-loop (λ c κs. search zneeds) loop-holds subframe-row-requires returns mul-c-8khz array-set-from-c-8khz (λ c. search zneeds)
-    (λ c. search zneeds) loop-again winner-requires returns-2)
+    (λ c. search zneeds) loop-again lag-search-requires pick-lag-requires answer-requires returns-2)

@@ -1,77 +1,73 @@
 -- `stage2::try_lag` meets its contract.
 use mathlib.Core.Path.{_≡_, sym, ap, _∙_}
-use Prim.Native.Nat.{ℕ}
 use lib.IntN.{ℤ}
 use mir.Syntax.{w32}
 use mir.Val.{toZ, ofZ}
-use Rattle.zint.specs.ReadLaws.{r-var, r-got}
-use Rattle.silk_macros.specs.Log.{lin2log}
+use Rattle.zint.specs.ReadLaws.{r-got}
 use Rattle.stage2.specs.declared.Along.{Along}
 use Rattle.stage2.specs.Scores.{best-contour, lag-sum, Search2, biased2, score2}
-use Rattle.stage2.specs.ScoreLaws.{log-small, lag-small}
-use Rattle.stage2.specs.Search.{at2, along, considered}
+use Rattle.stage2.specs.ScoreLaws.{lag-small}
+use Rattle.stage2.specs.Search.{search-in, along, considered}
 use Rattle.stage2.specs.SearchLaws.{with-listed, with-unlisted}
 use Rattle.zint.specs.RuleLaws.{zneeds}
 use Rattle.stage2.proofs.try_lag.Statement.{statement}
 use Rattle.stage2.proofs.try_lag.Tie as tie
 
 -- the search that the arguments make
-abbrev search-in : tie.Start → Search2
-search-in s =
-    let a = s .args in
-    record {
-      correlations = at2 (a .c-8khz .now);
-      kept = a .kept .now;
-      subframes = a .nb-subfr;
-      contours = a .nb-cbk-search;
-      threshold = a .thres;
-      prev-lag = a .prev-lag-8khz;
-      prev-corr = a .prev-corr;
-    }
+abbrev searched : tie.Start → Search2
+searched s = search-in (s .args .c-8khz .now) (s .args .kept .now) (s .args .by)
 
--- the lag's sum, as the code holds it
+-- the lag's sum and contour, as the code holds them
 module _ (c : tie.After-struct-told) where
   abbrev start : tie.Start
   start = c .before .before .before .before .before
 
-  abbrev array : ℕ → ℕ → ℤ
-  array = at2 (start .args .c-8khz .now)
+  abbrev s : Search2
+  s = searched start
 
   held : toZ w32 (ofZ w32 (c .before .best-contour .result .cc)) ≡ c .before .best-contour .result .cc
   held = search zneeds
 
-  summed : toZ w32 (ofZ w32 (c .before .best-contour .result .cc)) ≡ lag-sum array (start .args .nb-subfr) (start .args .nb-cbk-search) (start .args .d)
+  summed : toZ w32 (ofZ w32 (c .before .best-contour .result .cc)) ≡ lag-sum (s .correlations) (s .subframes) (s .contours) (start .args .d)
   unfolding along
   summed = held ∙ ap (λ (x : Along). x .cc) (c .before .best-contour .ensures)
 
-  contour-so : c .before .best-contour .result .contour ≡ best-contour array (start .args .nb-subfr) (start .args .nb-cbk-search) (start .args .d)
+  contour-so : c .before .best-contour .result .contour ≡ best-contour (s .correlations) (s .subframes) (s .contours) (start .args .d)
   unfolding along
   contour-so = ap (λ (x : Along). x .contour) (c .before .best-contour .ensures)
 
-  prev-log : toZ w32 (ofZ w32 (start .args .prev-lag-log2-q7)) ≡ lin2log (start .args .prev-lag-8khz)
-  prev-log = r-var (start .fits .prev-lag-log2-q7) .val ∙ start .pre .1 .1
+-- what the search goes by, as the code holds it
+prev-held : (c : tie.After-struct-told2) → toZ w32 (ofZ w32 (start (c .before) .args .by .prev)) ≡ start (c .before) .args .by .prev
+prev-held c = search zneeds
+
+corr-held : (c : tie.After-struct-told3) → toZ w32 (ofZ w32 (start (c .before .before) .args .by .corr)) ≡ start (c .before .before) .args .by .corr
+corr-held c = search zneeds
+
+thres-held : (c : tie.After-struct-told4) → toZ w32 (ofZ w32 (start (c .before .before .before .before) .args .by .thres)) ≡ start (c .before .before .before .before) .args .by .thres
+thres-held c = search zneeds
 
 biased-score-requires : tie.Need-biased-score-requires
 biased-score-requires c κs =
-    let s = start c in
-    let h = s .pre .0 .0 in
-    rw (summed c, prev-log c)
-    (lag-small (array c) (s .args .nb-subfr) (s .args .d) (h .small) (h .low) (h .high) (s .args .nb-cbk-search) (h .at-most), (h .at-most, (h .high, log-small (s .args .prev-lag-8khz))))
+    let d = c .before .before in
+    let h = start d .pre .0 .0 in
+    rw (summed d)
+    (lag-small (s d .correlations) (s d .subframes) (start d .args .d) (h .small) (h .low) (h .high) (s d .contours) (h .at-most), (h .at-most, h .high))
 
 returns : tie.Need-returns
 unfolding score2
 returns c =
-    let d = c .before .before in
-    let s = start d in
-    let a = s .args in
-    let f = c .before .biased-score in
-    let e = r-got w32 (f .ok) (f .ensures ∙ (λ t. biased2 (summed d t) (a .nb-subfr) (a .d) (r-var (s .fits .prev-lag-8khz) .val t) (prev-log d t) (r-var (s .fits .prev-corr) .val t))) .val in
+    let t4 = c .before in
+    let f = t4 .before .biased-score in
+    let t3 = t4 .before .before in
+    let d = t3 .before .before in
+    let a = start d .args in
+    let e = r-got w32 (f .ok) (f .ensures ∙ (λ t. biased2 (summed d t) (a .by .nb) (a .d) (prev-held (t3 .before) t) (corr-held t3 t))) .val in
     c .consider .ensures
-    ∙ (λ t. considered (a .best) (a .d) (summed d t) (contour-so d t) (e t) (r-var (s .fits .thres) .val t))
-    ∙ with-listed (search-in s) (a .d) (a .best) (sym (d .before .before .before .is-listed .ensures) ∙ d .before .before .if1 .taken)
+    ∙ (λ t. considered (a .best) (a .d) (summed d t) (contour-so d t) (e t) (thres-held t4 t))
+    ∙ with-listed (s d) (a .d) (a .best) (sym (d .before .before .before .is-listed .ensures) ∙ d .before .before .if1 .taken)
 
 returns-2 : tie.Need-returns-2
-returns-2 c = let s = c .before .before .before in with-unlisted (search-in s) (s .args .d) (s .args .best) (sym (c .before .is-listed .ensures) ∙ c .if1 .left)
+returns-2 c = let o = c .before .before .before in with-unlisted (searched o) (o .args .d) (o .args .best) (sym (c .before .is-listed .ensures) ∙ c .if1 .left)
 
 pub try-lag-spec : {M : Type 1} → statement M
 try-lag-spec =
