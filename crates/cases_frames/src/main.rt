@@ -43,11 +43,11 @@ fn verdict_agrees(row: &[u8], at: usize, v: Verdict) -> bool {
 fn lag_agrees(row: &[u8], at: usize, nb: usize, k: usize, lag: i32) -> bool
     requires { ⌜ k < 4 ⌝ }
 {
-    let told = i32_at(row, skip(row, at, 16 + 4 * k));
+    let expected = i32_at(row, skip(row, at, 16 + 4 * k));
     if k < nb {
-        return lag == told;
+        return lag == expected;
     }
-    told == 0 && lag == UNTOUCHED
+    expected == 0 && lag == UNTOUCHED
 }
 
 // Whether the call answers these samples as the row after them says.

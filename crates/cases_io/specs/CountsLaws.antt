@@ -1,4 +1,4 @@
--- Laws of the counts: one element more of a count-sum that goes round; settings are found the same exactly where they are equal.
+-- Laws of the counts: one element more of a sum that goes round; settings are found the same exactly where they are equal.
 use mathlib.Core.Bool.{Bool, true, false, _&&_}
 use mathlib.Core.List.{List}
 use mathlib.Core.Path.{_≡_, refl, sym, ap, ap₂, _∙_}
@@ -23,7 +23,7 @@ pub sum-none : (xs : List ℕ) → 0 ≡ count-sum xs 0 % 2 ^ 64
 unfolding count-sum
 sum-none xs = refl
 
--- one element more, added to a count-sum that went round
+-- one element more, added to a sum that went round
 pub sum-next : (xs : List ℕ) (n s : ℕ) → s ≡ count-sum xs n % 2 ^ 64 → (s + getD xs n 0) % 2 ^ 64 ≡ count-sum xs (n + 1) % 2 ^ 64
 unfolding count-sum
 sum-next xs n s e = rw (e, add-one) (mod-add-mod (count-sum xs n) (2 ^ 64) (getD xs n 0))

@@ -88,6 +88,7 @@ fn shifted(op: i32, a: i32, b: i32, c: i32) -> i32 {
     rotate_right_i32(a, bits_u32(b))
 }
 
+// Whether the operations answer as the source did (`said`); those with a `requires` first test it.
 fn add_sat16_agrees(a: i16, b: i16, said: i32) -> bool {
     silk_add_sat16(a, b) as i32 == said
 }
@@ -180,6 +181,7 @@ fn agrees(bytes: &[u8], at: usize, op: i32) -> bool {
     }
 }
 
+// Counts the cases of one operation and prints the line.
 fn replay(bytes: &[u8], op: i32, name: &[u8]) {
     let mut tally = Tally::none();
     let mut at = 0;
@@ -192,7 +194,8 @@ fn replay(bytes: &[u8], op: i32, name: &[u8]) {
     tally.print(name);
 }
 
-fn replay_all(bytes: &[u8]) {
+// Operations 0 to 7: products and shifts.
+fn replay_products(bytes: &[u8]) {
     replay(bytes, 0, b"silk_smulwb");
     replay(bytes, 1, b"silk_smlawb");
     replay(bytes, 2, b"silk_smulbb");
@@ -201,6 +204,10 @@ fn replay_all(bytes: &[u8]) {
     replay(bytes, 5, b"silk_rshift");
     replay(bytes, 6, b"silk_lshift");
     replay(bytes, 7, b"silk_rshift_round");
+}
+
+// Operations 8 to 15: what is held to a range, and quotients.
+fn replay_limits(bytes: &[u8]) {
     replay(bytes, 8, b"silk_sat16");
     replay(bytes, 9, b"silk_add_sat16");
     replay(bytes, 10, b"silk_add_sat32");
@@ -209,6 +216,10 @@ fn replay_all(bytes: &[u8]) {
     replay(bytes, 13, b"silk_div32");
     replay(bytes, 14, b"silk_div32_16");
     replay(bytes, 15, b"silk_div32_varq");
+}
+
+// Operations 16 to 23: a zero divisor, leading zeros, the logarithm, wrapping and rotation.
+fn replay_bits(bytes: &[u8]) {
     replay(bytes, 16, b"silk_div32_varq by zero");
     replay(bytes, 17, b"silk_clz32");
     replay(bytes, 18, b"silk_clz_frac");
@@ -222,5 +233,8 @@ fn replay_all(bytes: &[u8]) {
 fn main() {
     let mut bytes = cases_io::room();
     let n = io::read_full(0, &mut bytes);
-    replay_all(&bytes[..n]);
+    let list = &bytes[..n];
+    replay_products(list);
+    replay_limits(list);
+    replay_bits(list);
 }

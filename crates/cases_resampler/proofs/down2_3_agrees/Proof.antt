@@ -14,5 +14,5 @@ down2-3-agrees-spec =
     tie.close
     (tie.spec (λ c. search needs) (λ c κs. search needs) (λ c. search needs) (λ c κs. search needs) (λ c. search needs) (λ c κs. search needs)
     (λ c. search needs) (λ c κs. search needs) (λ c. search needs) (λ c κs. search needs) (λ c. search needs) (λ c. search needs) (λ c. search needs)
-    (λ c κs. search needs) (λ c. search needs) (λ c. search needs) slice-aggregate-same-i16s (λ c κs. search needs) (λ c. search needs)
+    (λ c κs. search needs) (λ c κs. search needs) (λ c. search needs) (λ c. search needs) slice-aggregate-same-i16s (λ c κs. search needs) (λ c. search needs)
     (λ c κs. search needs) (λ c. search needs) (λ c. search needs))

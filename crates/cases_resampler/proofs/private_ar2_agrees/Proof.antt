@@ -6,18 +6,6 @@ use borrow.Author.Needs.{needs}
 use Rattle.cases_resampler.proofs.private_ar2_agrees.Statement.{statement}
 use Rattle.cases_resampler.proofs.private_ar2_agrees.Tie as tie
 
-slice-aggregate-silk-resampler-private-ar2-2 :
-    tie.Need-slice-aggregate-silk-resampler-private-ar2-2
-slice-aggregate-silk-resampler-private-ar2-2 c = search needs
-
-slice-aggregate-silk-resampler-private-ar2-3 :
-    tie.Need-slice-aggregate-silk-resampler-private-ar2-3
-slice-aggregate-silk-resampler-private-ar2-3 c = search needs
-
-slice-aggregate-silk-resampler-private-ar2-4 :
-    tie.Need-slice-aggregate-silk-resampler-private-ar2-4
-slice-aggregate-silk-resampler-private-ar2-4 c = search needs
-
 slice-aggregate-same-i32s : tie.Need-slice-aggregate-same-i32s
 slice-aggregate-same-i32s c = sym (length-take-le _ _ (omega arith))
 
@@ -26,6 +14,6 @@ private-ar2-agrees-spec =
     tie.close
     (tie.spec (λ c. search needs) (λ c κs. search needs) (λ c κs. search needs) (λ c. search needs) (λ c κs. search needs) (λ c. search needs)
     (λ c κs. search needs) (λ c. search needs) (λ c κs. search needs) (λ c. search needs) (λ c κs. search needs) (λ c. search needs)
-    (λ c κs. search needs) (λ c. search needs) slice-aggregate-silk-resampler-private-ar2-2 slice-aggregate-silk-resampler-private-ar2-3
-    slice-aggregate-silk-resampler-private-ar2-4 (λ c κs. search needs) (λ c. search needs) slice-aggregate-same-i32s (λ c κs. search needs)
+    (λ c κs. search needs) (λ c. search needs) (λ c. search needs) (λ c. search needs)
+    (λ c. search needs) (λ c κs. search needs) (λ c κs. search needs) (λ c. search needs) slice-aggregate-same-i32s (λ c κs. search needs)
     (λ c. search needs) (λ c κs. search needs) (λ c. search needs) (λ c. search needs))

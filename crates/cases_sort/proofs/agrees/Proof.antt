@@ -6,18 +6,6 @@ use borrow.Author.Needs.{needs}
 use Rattle.cases_sort.proofs.agrees.Statement.{statement}
 use Rattle.cases_sort.proofs.agrees.Tie as tie
 
-slice-aggregate-silk-insertion-sort-decreasing-int16 :
-    tie.Need-slice-aggregate-silk-insertion-sort-decreasing-int16
-slice-aggregate-silk-insertion-sort-decreasing-int16 c = search needs
-
-slice-aggregate-silk-insertion-sort-decreasing-int16-2 :
-    tie.Need-slice-aggregate-silk-insertion-sort-decreasing-int16-2
-slice-aggregate-silk-insertion-sort-decreasing-int16-2 c = search needs
-
-silk-insertion-sort-decreasing-int16-requires :
-    tie.Need-silk-insertion-sort-decreasing-int16-requires
-silk-insertion-sort-decreasing-int16-requires c κs = search needs
-
 slice-aggregate-same-indices : tie.Need-slice-aggregate-same-indices
 slice-aggregate-same-indices c = sym (length-take-le _ _ (omega arith))
 
@@ -28,7 +16,7 @@ pub agrees-spec : {M : Type 1} → statement M
 agrees-spec =
     tie.close
     (tie.spec (λ c. search needs) (λ c. search needs) (λ c. search needs) (λ c κs. search needs) (λ c. search needs) (λ c κs. search needs)
-    (λ c. search needs) (λ c κs. search needs) (λ c. search needs) (λ c κs. search needs) slice-aggregate-silk-insertion-sort-decreasing-int16
-    slice-aggregate-silk-insertion-sort-decreasing-int16-2 silk-insertion-sort-decreasing-int16-requires (λ c. search needs)
+    (λ c. search needs) (λ c κs. search needs) (λ c. search needs) (λ c κs. search needs) (λ c. search needs)
+    (λ c. search needs) (λ c κs. search needs) (λ c. search needs)
     slice-aggregate-same-indices (λ c κs. search needs) (λ c. search needs) slice-aggregate-same-i16s (λ c κs. search needs) (λ c. search needs)
     (λ c. search needs))
