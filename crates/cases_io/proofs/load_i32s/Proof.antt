@@ -4,7 +4,7 @@ use native.Mathlib.Omega.{arith}
 use lib.ListN.{length}
 use mir.Syntax.{w32}
 use Rattle.zint.specs.ReadLaws.{r-got}
-use Rattle.zint.specs.RuleLaws.{zneeds}
+use borrow.Author.Needs.{needs}
 use Rattle.cases_io.specs.Little.{i32s-at}
 use Rattle.cases_io.specs.LittleLaws.{Loaded, loaded-none, loaded-turn, loaded-all}
 use Rattle.cases_io.proofs.load_i32s.Statement.{statement}
@@ -22,5 +22,5 @@ loop-again c = loaded-turn (c .before .before .loop .inv) (r-got w32 (c .nth-i32
 pub load-i32s-spec : {M : Type 1} → statement M
 load-i32s-spec =
     tie.close
-    (tie.spec Inv-loop μ-loop (λ c. loaded-none _ _) (λ c κs. search zneeds) (λ c. search zneeds) (λ c. search zneeds) (λ c. search zneeds) (λ c. search zneeds)
-    loop-again (λ c. search zneeds) (λ c. loaded-all (c .before .loop .inv) (omega arith)))
+    (tie.spec Inv-loop μ-loop (λ c. loaded-none _ _) (λ c κs. search needs) (λ c. search needs) (λ c. search needs) (λ c. search needs) (λ c. search needs)
+    loop-again (λ c. search needs) (λ c. loaded-all (c .before .loop .inv) (omega arith)))

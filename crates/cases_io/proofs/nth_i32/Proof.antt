@@ -4,7 +4,7 @@ use lib.IntN.{pos}
 use lib.ListN.{length}
 use mir.Syntax.{w32}
 use Rattle.zint.specs.ReadLaws.{r-got}
-use Rattle.zint.specs.RuleLaws.{zneeds}
+use borrow.Author.Needs.{needs}
 use Rattle.cases_io.specs.Little.{i32-at}
 use Rattle.cases_io.specs.LittleLaws.{i32-past, at-cut}
 use Rattle.cases_io.proofs.nth_i32.Statement.{statement}
@@ -16,4 +16,4 @@ returns c =
     r-got w32 (c .i32-at .ok) (c .i32-at .ensures ∙ at-cut (pos 0) (i32-at b) (length b) (i32-past b) _ _ (c .before .skip .ensures)) .val
 
 pub nth-i32-spec : {M : Type 1} → statement M
-nth-i32-spec = tie.close (tie.spec (λ c. search zneeds) (λ c κs. search zneeds) (λ c κs. search zneeds) returns)
+nth-i32-spec = tie.close (tie.spec (λ c. search needs) (λ c κs. search needs) (λ c κs. search needs) returns)

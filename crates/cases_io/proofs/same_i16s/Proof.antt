@@ -7,7 +7,7 @@ use lib.ListN.{length}
 use mir.Syntax.{w16}
 use mir.Val.{toZ, ofZ}
 use Rattle.zint.specs.ReadLaws.{r-got, r-elem}
-use Rattle.zint.specs.RuleLaws.{zneeds}
+use borrow.Author.Needs.{needs}
 use Rattle.cases_io.specs.Little.{i16s-at, agree}
 use Rattle.cases_io.specs.LittleLaws.{agree-none, agree-next, agree-not, agree-all}
 use Rattle.cases_io.proofs.same_i16s.Statement.{statement}
@@ -36,5 +36,5 @@ loop-again c =
 pub same-i16s-spec : {M : Type 1} → statement M
 same-i16s-spec =
     tie.close
-    (tie.spec Inv-loop μ-loop (λ c. (omega arith, agree-none _ _)) (λ c. search zneeds) (λ c. search zneeds) (λ c κs. search zneeds) returns
-    (λ c. search zneeds) (λ c. search zneeds) loop-again (λ c. agree-all _ _ (c .before .loop .inv .1) (omega arith)))
+    (tie.spec Inv-loop μ-loop (λ c. (omega arith, agree-none _ _)) (λ c. search needs) (λ c. search needs) (λ c κs. search needs) returns
+    (λ c. search needs) (λ c. search needs) loop-again (λ c. agree-all _ _ (c .before .loop .inv .1) (omega arith)))

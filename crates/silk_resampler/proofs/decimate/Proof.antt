@@ -5,7 +5,7 @@ use native.Mathlib.Omega.{arith}
 use lib.ListN.{length, length-set}
 use mir.Syntax.{w16}
 use Rattle.zint.specs.ReadLaws.{r-got}
-use Rattle.zint.specs.RuleLaws.{zneeds}
+use borrow.Author.Needs.{needs}
 use Rattle.lists.specs.Fill.{filled}
 use Rattle.lists.specs.FillLaws.{filled-none, filled-turn}
 use Rattle.lists.specs.Signal.{sample}
@@ -51,6 +51,6 @@ returns c =
 pub decimate-spec : {M : Type 1} → statement M
 decimate-spec =
     tie.close
-    (tie.spec Inv-loop μ-loop loop-holds (λ c κs. search zneeds) (λ c κs. search zneeds) (λ c. search zneeds) (λ c. search zneeds)
-    (λ c. search zneeds) (λ c. search zneeds) (λ c. search zneeds) (λ c. search zneeds) slice-set-from-odd (λ c. search zneeds) (λ c. search zneeds)
-    loop-again (λ c. search zneeds) returns)
+    (tie.spec Inv-loop μ-loop loop-holds (λ c κs. search needs) (λ c κs. search needs) (λ c. search needs) (λ c. search needs)
+    (λ c. search needs) (λ c. search needs) (λ c. search needs) (λ c. search needs) slice-set-from-odd (λ c. search needs) (λ c. search needs)
+    loop-again (λ c. search needs) returns)

@@ -1,7 +1,7 @@
 -- `silk_resampler::odd_output` meets its contract.
 use mir.Syntax.{w16}
 use Rattle.zint.specs.ReadLaws.{r-got}
-use Rattle.zint.specs.RuleLaws.{zneeds}
+use borrow.Author.Needs.{needs}
 use Rattle.silk_resampler.specs.Down23.{odd-out}
 use Rattle.silk_resampler.proofs.odd_output.Statement.{statement}
 use Rattle.silk_resampler.proofs.odd_output.Tie as tie
@@ -13,4 +13,4 @@ returns c = r-got w16 (c .weighted-output .ok) (c .weighted-output .ensures) .va
 pub odd-output-spec : {M : Type 1} → statement M
 odd-output-spec =
     tie.close
-    (tie.spec (λ c. search zneeds) (λ c. search zneeds) (λ c. search zneeds) (λ c. search zneeds) (λ c. search zneeds) (λ c. search zneeds) (λ c κs. search zneeds) returns)
+    (tie.spec (λ c. search needs) (λ c. search needs) (λ c. search needs) (λ c. search needs) (λ c. search needs) (λ c. search needs) (λ c κs. search needs) returns)

@@ -6,7 +6,7 @@ use native.Mathlib.Omega.{arith}
 use borrow.Rule.Slice.PartMut.{putMid, same-len-mid}
 use lib.IntN.{ℤ, pos, negsuc}
 use lib.ListN.{length, take, drop, replicate, length-replicate}
-use Rattle.zint.specs.RuleLaws.{zneeds}
+use borrow.Author.Needs.{needs}
 use Rattle.lists.specs.Fill.{filled}
 use Rattle.lists.specs.Signal.{sample}
 use Rattle.silk_resampler.specs.declared.Filter.{Filter}
@@ -76,7 +76,7 @@ returns c =
 pub silk-resampler-down2-3-spec : {M : Type 1} → statement M
 silk-resampler-down2-3-spec =
     tie.close
-    (tie.spec (λ c. search zneeds) (λ c κs. search zneeds) (λ c. search zneeds) (λ c. search zneeds) (λ c. search zneeds) (λ c. search zneeds)
-    (λ c. search zneeds) (λ c. search zneeds) (λ c. search zneeds) (λ c. search zneeds) (λ c. search zneeds) (λ c κs. search zneeds)
-    slice-aggregate-decimate decimate-requires (λ c. search zneeds) (λ c. search zneeds) (λ c. search zneeds) part-copy-values-end
-    (λ c κs. search zneeds) (λ c. search zneeds) (λ c. search zneeds) returns)
+    (tie.spec (λ c. search needs) (λ c κs. search needs) (λ c. search needs) (λ c. search needs) (λ c. search needs) (λ c. search needs)
+    (λ c. search needs) (λ c. search needs) (λ c. search needs) (λ c. search needs) (λ c. search needs) (λ c κs. search needs)
+    slice-aggregate-decimate decimate-requires (λ c. search needs) (λ c. search needs) (λ c. search needs) part-copy-values-end
+    (λ c κs. search needs) (λ c. search needs) (λ c. search needs) returns)
