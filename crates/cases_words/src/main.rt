@@ -194,8 +194,8 @@ fn replay(bytes: &[u8], op: i32, name: &[u8]) {
     tally.print(name);
 }
 
-// Operations 0 to 7: products and shifts.
-fn replay_products(bytes: &[u8]) {
+// A line for each operation, in the order of their numbers.
+fn replay_all(bytes: &[u8]) {
     replay(bytes, 0, b"silk_smulwb");
     replay(bytes, 1, b"silk_smlawb");
     replay(bytes, 2, b"silk_smulbb");
@@ -204,10 +204,6 @@ fn replay_products(bytes: &[u8]) {
     replay(bytes, 5, b"silk_rshift");
     replay(bytes, 6, b"silk_lshift");
     replay(bytes, 7, b"silk_rshift_round");
-}
-
-// Operations 8 to 15: what is held to a range, and quotients.
-fn replay_limits(bytes: &[u8]) {
     replay(bytes, 8, b"silk_sat16");
     replay(bytes, 9, b"silk_add_sat16");
     replay(bytes, 10, b"silk_add_sat32");
@@ -216,10 +212,6 @@ fn replay_limits(bytes: &[u8]) {
     replay(bytes, 13, b"silk_div32");
     replay(bytes, 14, b"silk_div32_16");
     replay(bytes, 15, b"silk_div32_varq");
-}
-
-// Operations 16 to 23: a zero divisor, leading zeros, the logarithm, wrapping and rotation.
-fn replay_bits(bytes: &[u8]) {
     replay(bytes, 16, b"silk_div32_varq by zero");
     replay(bytes, 17, b"silk_clz32");
     replay(bytes, 18, b"silk_clz_frac");
@@ -233,8 +225,5 @@ fn replay_bits(bytes: &[u8]) {
 fn main() {
     let mut bytes = cases_io::room();
     let n = io::read_full(0, &mut bytes);
-    let list = &bytes[..n];
-    replay_products(list);
-    replay_limits(list);
-    replay_bits(list);
+    replay_all(&bytes[..n]);
 }
