@@ -1,7 +1,6 @@
 -- A frame of 16 samples at the loudest, as the Rust scales it: the energy keeps 29 bits at a shift of 6, so the samples shift right by 3.
 use mathlib.Core.Path.{_≡_, refl}
 use lib.Count.{leadingZeros}
-use lib.IntN.{negsuc}
 use lib.ListN.{replicate}
 use Rattle.lists.specs.Fill.{tabulate}
 use Rattle.lists.specs.Signal.{sample}

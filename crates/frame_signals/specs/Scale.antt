@@ -1,4 +1,4 @@
--- The working frame (document 01, "Three stages", Scale): the frame xs, or its samples shifted right where its energy is high. Definitions only; the laws are in `ScaleLaws`.
+-- The working frame (docs/SCOPE.md, Stages): the frame xs, or its samples shifted right where its energy is high. Definitions only; the laws are in `ScaleLaws`.
 use mathlib.Core.Bool.{cond}
 use mathlib.Core.List.{List}
 use Prim.Native.Nat.{ℕ, _+_, _/_, _^_}

@@ -14,7 +14,7 @@ use Rattle.pitch_table.specs.declared.Row.{Row}
 use Rattle.pitch_table.specs.Row.{numbers, pair-lag, voiced-row, unpitched-row}
 use Rattle.frame_signals.specs.Scale.{scaled}
 use Rattle.frame_signals.specs.Signals.{down-to-8khz, down-to-4khz}
-use Rattle.stage1.specs.Stage1.{stage1, kept}
+use Rattle.stage1.specs.Stage1.{stage1, kept-lags}
 use Rattle.stage1.specs.declared.Screen.{Screen}
 use Rattle.stage1.specs.declared.Screen.the-variants.{ZeroDivisor as Zero1, Unvoiced as Unvoiced1, Goes}
 use Rattle.stage2.specs.Stage2.{stage2}
@@ -64,7 +64,7 @@ from-winner s w Zero2 = ZeroDivisor
 
 -- stage 2 on the signals e and f
 unfoldable pub second-stage : Settings → List ℤ → List ℤ → ℤ → ℤ → Stage2
-second-stage s e f prev corr = stage2 e (kept f (s .nb) (s .complexity) (s .thres1)) (s .rate) (s .nb) (s .complexity) (s .thres2) prev corr
+second-stage s e f prev corr = stage2 e (kept-lags f (s .nb) (s .complexity) (s .thres1)) (s .rate) (s .nb) (s .complexity) (s .thres2) prev corr
 
 abbrev pub from-screen : Settings → List ℤ → List ℤ → List ℤ → ℤ → ℤ → Screen → Verdict
 from-screen s w e f prev corr Goes = from-winner s w (second-stage s e f prev corr)

@@ -9,7 +9,7 @@ use lib.IntN.{ℤ, pos, _-ℤ_}
 use lib.Signed.{_≤ℤ_, _<ℤ_}
 use Rattle.pitch_settings.specs.declared.Settings.{Settings}
 use Rattle.frame_signals.specs.Scale.{scaled}
-use Rattle.stage1.specs.Stage1.{score1, kept}
+use Rattle.stage1.specs.Stage1.{score1, kept-lags}
 use Rattle.stage1.specs.Meaning.{Lag, ZeroReached1}
 use Rattle.stage2.specs.Stage2.{search-of}
 use Rattle.stage2.specs.Meaning.{ZeroReached2, Passes, Wins}
@@ -30,7 +30,7 @@ module _ (s : Settings) (x : List ℤ) (prev corr : ℤ) where
   f = signal4 s w
 
   abbrev pub lags : List ℕ
-  lags = kept f (s .nb) (s .complexity) (s .thres1)
+  lags = kept-lags f (s .nb) (s .complexity) (s .thres1)
 
   -- ---- the divisors that each stage reaches
 

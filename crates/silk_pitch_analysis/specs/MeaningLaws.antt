@@ -20,7 +20,7 @@ use Rattle.stage1.specs.MeaningLaws.{zero-where, zero-only, unvoiced-only, unvo
 use Rattle.stage1.specs.declared.Screen.{Screen}
 use Rattle.stage1.specs.declared.Screen.the-variants.{ZeroDivisor as Zeroed, Unvoiced as Low, Goes}
 use Rattle.stage2.specs.Stage2.{stage2}
-use Rattle.stage2.specs.Meaning.{Meaning as Meaning2}
+use Rattle.stage2.specs.Meaning.{Meaning2}
 use Rattle.stage2.specs.MeaningLaws.{stage2-means, stage2-only}
 use Rattle.stage2.specs.declared.Stage2.{Stage2}
 use Rattle.stage2.specs.declared.Stage2.the-variants.{ZeroDivisor as ZeroIn2, Unvoiced as NoWinner, Winner}

@@ -17,7 +17,7 @@ use Rattle.silk_tables.specs.Tables.{contours, in-use, greatest-index}
 use Rattle.silk_tables.specs.ContourLaws.{contours-8, contours-other}
 use Rattle.frame_signals.specs.Scale.{scaled}
 use Rattle.frame_signals.specs.ScaleLaws.{length-scaled}
-use Rattle.stage1.specs.Stage1.{stage1, kept}
+use Rattle.stage1.specs.Stage1.{stage1, kept-lags}
 use Rattle.stage1.specs.declared.Screen.{Screen}
 use Rattle.stage1.specs.declared.Screen.the-variants.{ZeroDivisor as Zero1, Unvoiced as Unvoiced1, Goes}
 use Rattle.stage2.specs.Stage2.{stage2}
@@ -77,7 +77,7 @@ module _ (s : Settings) (w : List ℤ) (h : settings-no s ≡ 0) (len : length w
 
   by-screen : (e f : List ℤ) (prev corr : ℤ) (x : Screen) → VerdictCarried s (from-screen s w e f prev corr x)
   unfolding second-stage
-  by-screen e f prev corr Goes = by-winner e (kept f (s .nb) (s .complexity) (s .thres1)) prev corr (stage2 e (kept f (s .nb) (s .complexity) (s .thres1)) (s .rate) (s .nb) (s .complexity) (s .thres2) prev corr) refl
+  by-screen e f prev corr Goes = by-winner e (kept-lags f (s .nb) (s .complexity) (s .thres1)) prev corr (stage2 e (kept-lags f (s .nb) (s .complexity) (s .thres1)) (s .rate) (s .nb) (s .complexity) (s .thres2) prev corr) refl
   by-screen e f prev corr Unvoiced1 = unvoiced
   by-screen e f prev corr Zero1 = zero-divisor
 

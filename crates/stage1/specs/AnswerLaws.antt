@@ -13,7 +13,7 @@ use Rattle.lists.specs.Fill.{tabulate, filled}
 use Rattle.lists.specs.FillLaws.{getD-tabulate, length-tabulate, length-filled}
 use Rattle.stage1.specs.declared.Screen.the-variants.{ZeroDivisor, Unvoiced, Goes}
 use Rattle.stage1.specs.declared.Stage1.{Stage1}
-use Rattle.stage1.specs.Stage1.{zero1, scores1, lag-at, score-at, kept-count, stopped, screened, stage1, screen-numbers, screen-number, kept}
+use Rattle.stage1.specs.Stage1.{zero1, scores1, lag-at, score-at, kept-count, stopped, screened, stage1, screen-numbers, screen-number, kept-lags}
 use Rattle.stage1.specs.Meaning.{Lag, place1}
 use Rattle.stage1.specs.KeptLaws.{search-length-few}
 use Rattle.stage1.specs.PlaceLaws.{lag-is, place-at, scan}
@@ -38,33 +38,33 @@ module _ (f : List ℤ) (nb cx : ℕ) (thres1 : ℤ) where
   abbrev n : ℕ
   n = kept-count xs cx thres1
 
-  pub length-kept : length (kept f nb cx thres1) ≡ kept-count (scores1 f nb) cx thres1
-  unfolding kept
+  pub length-kept : length (kept-lags f nb cx thres1) ≡ kept-count (scores1 f nb) cx thres1
+  unfolding kept-lags
   length-kept = length-tabulate (lag-at xs) n
 
-  kept-at : (i : ℕ) → i < n → getD (kept f nb cx thres1) i 0 ≡ lag-at xs i
-  unfolding kept
+  kept-at : (i : ℕ) → i < n → getD (kept-lags f nb cx thres1) i 0 ≡ lag-at xs i
+  unfolding kept-lags
   kept-at i h = getD-tabulate (lag-at xs) n i 0 h
 
   module _ (small : cx < 3) where
     few : n ≤ 8
     few = omega (arith, scan f nb cx thres1 .within, search-length-few small)
 
-    pub kept-few : length (kept f nb cx thres1) ≤ 8
+    pub kept-few : length (kept-lags f nb cx thres1) ≤ 8
     kept-few = omega (arith, length-kept, few)
 
-    pub kept-lag : (i : ℕ) → i < length (kept f nb cx thres1) → Lag (getD (kept f nb cx thres1) i 0)
+    pub kept-lag : (i : ℕ) → i < length (kept-lags f nb cx thres1) → Lag (getD (kept-lags f nb cx thres1) i 0)
     kept-lag i h =
         let l : i < n = omega (arith, length-kept) in
         subst Lag (sym (kept-at i l)) (lag-is f nb i (omega (arith, few)))
 
-    pub kept-low : (i : ℕ) → i < length (kept f nb cx thres1) → 8 ≤ getD (kept f nb cx thres1) i 0
+    pub kept-low : (i : ℕ) → i < length (kept-lags f nb cx thres1) → 8 ≤ getD (kept-lags f nb cx thres1) i 0
     kept-low i h = kept-lag i h .at-least
 
-    pub kept-high : (i : ℕ) → i < length (kept f nb cx thres1) → getD (kept f nb cx thres1) i 0 ≤ 72
+    pub kept-high : (i : ℕ) → i < length (kept-lags f nb cx thres1) → getD (kept-lags f nb cx thres1) i 0 ≤ 72
     kept-high i h = kept-lag i h .at-most
 
-    pub kept-distinct : (i j : ℕ) → i < length (kept f nb cx thres1) → j < length (kept f nb cx thres1) → getD (kept f nb cx thres1) i 0 ≡ getD (kept f nb cx thres1) j 0 → i ≡ j
+    pub kept-distinct : (i j : ℕ) → i < length (kept-lags f nb cx thres1) → j < length (kept-lags f nb cx thres1) → getD (kept-lags f nb cx thres1) i 0 ≡ getD (kept-lags f nb cx thres1) j 0 → i ≡ j
     kept-distinct i j h k e =
         let l : i < n = omega (arith, length-kept) in
         let m : j < n = omega (arith, length-kept) in
@@ -89,8 +89,8 @@ module _ (f : List ℤ) (nb cx : ℕ) (thres1 : ℤ) where
     count-of false true = omega arith
     count-of false false = few
 
-    front-of : (t u : Bool) → either t u .screen ≡ Goes → take (either t u .count) (either t u .lags) ≡ kept f nb cx thres1
-    unfolding stopped kept filled
+    front-of : (t u : Bool) → either t u .screen ≡ Goes → take (either t u .count) (either t u .lags) ≡ kept-lags f nb cx thres1
+    unfolding stopped kept-lags filled
     front-of true u e = let z : _≡_ {A = ℕ} 0 1 = cc in absurd (omega arith)
     front-of false true e = let z : _≡_ {A = ℕ} 0 1 = cc in absurd (omega arith)
     front-of false false e = take-at (tabulate (lag-at xs) n) (drop n (replicate 8 0)) n (length-tabulate (lag-at xs) n)
@@ -103,6 +103,6 @@ module _ (f : List ℤ) (nb cx : ℕ) (thres1 : ℤ) where
     unfolding stage1 screened
     answer-count = count-of (zero1 f nb) (ltZ (score-at xs 0) (pos 3277))
 
-    pub answer-kept : stage1 f nb cx thres1 .screen ≡ Goes → take (stage1 f nb cx thres1 .count) (stage1 f nb cx thres1 .lags) ≡ kept f nb cx thres1
+    pub answer-kept : stage1 f nb cx thres1 .screen ≡ Goes → take (stage1 f nb cx thres1 .count) (stage1 f nb cx thres1 .lags) ≡ kept-lags f nb cx thres1
     unfolding stage1 screened
     answer-kept = front-of (zero1 f nb) (ltZ (score-at xs 0) (pos 3277))

@@ -42,7 +42,7 @@ module _ (f : List ℤ) (nb : ℕ) where
   module _ (cx : ℕ) (thres1 : ℤ) where
     -- a lag that goes on: it is among the 4 + 2 × complexity best, and strictly above the threshold `silk_smulwb(thres1, best)`. The scores fall along the ranking, so no
     -- lag before it stops the scan
-    pub record GoesOn (t : ℤ) (d : ℕ) : Type 0 where
+    pub record LagGoesOn (t : ℤ) (d : ℕ) : Type 0 where
       pub lag : Lag d
       pub among : place1 d < 4 + 2 * cx
       pub above : smulwb thres1 t <ℤ score1 f nb d
@@ -50,8 +50,8 @@ module _ (f : List ℤ) (nb : ℕ) where
     -- the lags that go on and no others, each at the place that says how many rank before it; 0 in the places after them
     pub record KeptLags (t : ℤ) (lags : List ℕ) (count : ℕ) : Type 0 where
       pub size : length lags ≡ 8
-      pub each : (p : ℕ) → p < count → GoesOn t (getD lags p 0) × (place1 (getD lags p 0) ≡ p)
-      pub all : (d : ℕ) → GoesOn t d → place1 d < count
+      pub each : (p : ℕ) → p < count → LagGoesOn t (getD lags p 0) × (place1 (getD lags p 0) ≡ p)
+      pub all : (d : ℕ) → LagGoesOn t d → place1 d < count
       pub rest : (p : ℕ) → count ≤ p → getD lags p 0 ≡ 0
 
     abbrev pub Said : Screen → List ℕ → ℕ → Type 0
@@ -59,5 +59,5 @@ module _ (f : List ℤ) (nb : ℕ) where
     Said Unvoiced lags count = ((h d : ℕ) → ZeroReached1 h d → ⊥) × ((t : ℤ) × Top t × (t <ℤ pos 3277)) × (lags ≡ replicate 8 0) × (count ≡ 0)
     Said Goes lags count = ((h d : ℕ) → ZeroReached1 h d → ⊥) × ((t : ℤ) × Top t × (pos 3277 ≤ℤ t) × KeptLags t lags count)
 
-    abbrev pub Meaning : Stage1 → Type 0
-    Meaning x = Said (x .screen) (x .lags) (x .count)
+    abbrev pub Meaning1 : Stage1 → Type 0
+    Meaning1 x = Said (x .screen) (x .lags) (x .count)

@@ -31,7 +31,7 @@ use Rattle.stage1.specs.Steps.{zero-in}
 use Rattle.stage1.specs.ScoreLaws.{zero1-halves}
 use Rattle.stage1.specs.KeptLaws.{First, search-length-few}
 use Rattle.stage1.specs.PlaceLaws.{below, lag-score, lag-is, at-score, place-at, lag-of, one-place, falls, scan}
-use Rattle.stage1.specs.Meaning.{Lag, ZeroReached1, RanksBefore, place1, Top, GoesOn, KeptLags, Said, Meaning}
+use Rattle.stage1.specs.Meaning.{Lag, ZeroReached1, RanksBefore, place1, Top, LagGoesOn, KeptLags, Said, Meaning1}
 
 -- ---- the ranking in words
 
@@ -117,7 +117,7 @@ module _ (f : List ℤ) (nb cx : ℕ) (thres1 : ℤ) (small : cx < 3) where
   abbrev scanned : First 0 (search-length cx) (λ r. leZ (score-at ys r) (threshold1 ys thres1)) n
   scanned = scan f nb cx thres1
 
-  goes-on : (p : ℕ) → p < n → GoesOn f nb cx thres1 (score-at ys 0) (lag-at ys p)
+  goes-on : (p : ℕ) → p < n → LagGoesOn f nb cx thres1 (score-at ys 0) (lag-at ys p)
   unfolding search-length threshold1
   goes-on p l =
       let h : p < 65 = omega (arith, scanned .within) in
@@ -128,7 +128,7 @@ module _ (f : List ℤ) (nb cx : ℕ) (thres1 : ℤ) (small : cx < 3) where
       }
 
   -- one that the scan does not come to is not above the threshold
-  found : (d : ℕ) → GoesOn f nb cx thres1 (score-at ys 0) d → Dec (place1 f nb d < n) → place1 f nb d < n
+  found : (d : ℕ) → LagGoesOn f nb cx thres1 (score-at ys 0) d → Dec (place1 f nb d < n) → place1 f nb d < n
   unfolding search-length threshold1
   found d g (yes l) = l
   found d g (no l) =
@@ -142,24 +142,24 @@ module _ (f : List ℤ) (nb cx : ℕ) (thres1 : ℤ) (small : cx < 3) where
   listed =
       record {
         size = length-filled (lag-at ys) n (replicate 8 0) (omega (arith, scanned .within, search-length-few small));
-        each = λ p l. subst (λ (d : ℕ). GoesOn f nb cx thres1 (score-at ys 0) d × (place1 f nb d ≡ p)) (sym (getD-filled (lag-at ys) n (replicate 8 0) p 0 l))
+        each = λ p l. subst (λ (d : ℕ). LagGoesOn f nb cx thres1 (score-at ys 0) d × (place1 f nb d ≡ p)) (sym (getD-filled (lag-at ys) n (replicate 8 0) p 0 l))
             (goes-on p l, place-at f nb p (omega (arith, scanned .within, search-length-few small)));
         all = λ d g. found d g (decLt (place1 f nb d) n);
         rest = λ p l. getD-after (lag-at ys) n (replicate 8 0) p 0 l ∙ zero-there 8 p;
       }
 
   by-best : (t : Bool) → ltZ (score-at ys 0) (pos 3277) ≡ t → zero1 f nb ≡ false
-      → Meaning f nb cx thres1 (cond t (stopped Unvoiced) (record { screen = Goes; lags = filled (lag-at ys) n (replicate 8 0); count = n }))
+      → Meaning1 f nb cx thres1 (cond t (stopped Unvoiced) (record { screen = Goes; lags = filled (lag-at ys) n (replicate 8 0); count = n }))
   unfolding stopped
   by-best true e z = (no-zero f nb z, (score-at ys 0, top-is f nb, lt-true (score-at ys 0) (pos 3277) e), refl, refl)
   by-best false e z = (no-zero f nb z, (score-at ys 0, top-is f nb, lt-false (score-at ys 0) (pos 3277) e, listed))
 
-  by-divisor : (t : Bool) → zero1 f nb ≡ t → Meaning f nb cx thres1 (cond t (stopped ZeroDivisor) (screened ys cx thres1))
+  by-divisor : (t : Bool) → zero1 f nb ≡ t → Meaning1 f nb cx thres1 (cond t (stopped ZeroDivisor) (screened ys cx thres1))
   unfolding stopped screened
   by-divisor true e = (zero-words f nb e, refl, refl)
   by-divisor false e = by-best (ltZ (score-at ys 0) (pos 3277)) refl e
 
-pub stage1-means : (f : List ℤ) (nb cx : ℕ) (thres1 : ℤ) → Handed1 f nb cx → Meaning f nb cx thres1 (stage1 f nb cx thres1)
+pub stage1-means : (f : List ℤ) (nb cx : ℕ) (thres1 : ℤ) → Handed1 f nb cx → Meaning1 f nb cx thres1 (stage1 f nb cx thres1)
 unfolding stage1
 stage1-means f nb cx thres1 r = by-divisor f nb cx thres1 (r .complexity) (zero1 f nb) refl
 
@@ -260,7 +260,7 @@ module _ (f : List ℤ) (nb cx : ℕ) (thres1 : ℤ) where
       let s = same-list t l m i j x (subst (λ (z : ℤ). KeptLags f nb cx thres1 z m j) (one-top f nb u t a′ a) y) in
       ap₂ (answer Goes) (s .0) (s .1)
 
-  pub stage1-only : Handed1 f nb cx → (x : Stage1) → Meaning f nb cx thres1 x → x ≡ stage1 f nb cx thres1
+  pub stage1-only : Handed1 f nb cx → (x : Stage1) → Meaning1 f nb cx thres1 x → x ≡ stage1 f nb cx thres1
   stage1-only r x m =
       let y = stage1 f nb cx thres1 in
       one-meaning (x .screen) (y .screen) (x .lags) (y .lags) (x .count) (y .count) m (stage1-means f nb cx thres1 r)

@@ -1,4 +1,4 @@
--- Stage 1 of the pitch analyser: which lags at 4 kHz go on to stage 2 (document 01, "Three stages"; pitch_analysis.rs, from `c` to the loop that shortens `length_d_srch`).
+-- Stage 1 of the pitch analyser: which lags at 4 kHz go on to stage 2 (docs/SCOPE.md, Stages; pitch_analysis.rs, lines 201 to 290).
 -- f is the frame's 4 kHz signal, nb the subframe count, cx the complexity, thres1 the first threshold. A best is named by comparison (`best`, `silk_sort`): no search runs here.
 -- Definitions only.
 use mathlib.Core.Path.{_≡_}
@@ -135,7 +135,7 @@ screened xs cx thres1 =
 unfoldable pub stage1 : List ℤ → ℕ → ℕ → ℤ → Stage1
 stage1 f nb cx thres1 = cond (zero1 f nb) (stopped ZeroDivisor) (screened (scores1 f nb) cx thres1)
 
--- which way it goes in document 01's numbers: 2 a zero divisor, 1 unvoiced, 0 goes on; and which of them comes
+-- which way it goes in numbers: 2 a zero divisor, 1 unvoiced, 0 goes on; and which of them comes
 abbrev pub screen-numbers : Screen → List ℤ
 screen-numbers ZeroDivisor = pos 2 ∷ []
 screen-numbers Unvoiced = pos 1 ∷ []
@@ -145,8 +145,8 @@ unfoldable pub screen-number : List ℤ → ℕ → ℕ
 screen-number f nb = cond (zero1 f nb) 2 (cond (ltZ (score-at (scores1 f nb) 0) (pos 3277)) 1 0)
 
 -- the kept lags in order, which stage 2 marks where stage 1 goes on
-unfoldable pub kept : List ℤ → ℕ → ℕ → ℤ → List ℕ
-kept f nb cx thres1 = tabulate (lag-at (scores1 f nb)) (kept-count (scores1 f nb) cx thres1)
+unfoldable pub kept-lags : List ℤ → ℕ → ℕ → ℤ → List ℕ
+kept-lags f nb cx thres1 = tabulate (lag-at (scores1 f nb)) (kept-count (scores1 f nb) cx thres1)
 
 -- what stage 1 is handed: two or four subframes, complexity 0, 1 or 2, and the frame's 4 kHz signal
 pub record Handed1 (f : List ℤ) (nb cx : ℕ) : Type 0 where

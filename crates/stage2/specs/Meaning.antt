@@ -49,7 +49,7 @@ module _ (s : Search2) where
 
 -- the answer's words
 module _ (e : List ℤ) (kept : List ℕ) (fs nb cx : ℕ) (thres2 prev corr : ℤ) where
-  abbrev pub Meaning : Stage2 → Type 0
-  Meaning ZeroDivisor = (k : ℕ) × (d : ℕ) × ZeroReached2 e kept nb k d
-  Meaning Unvoiced = NoZero2 e kept nb × ((d : ℕ) → Passes (search-of e kept fs nb cx thres2 prev corr) d → ⊥)
-  Meaning (Winner d j r) = NoZero2 e kept nb × Wins (search-of e kept fs nb cx thres2 prev corr) d j r
+  abbrev pub Meaning2 : Stage2 → Type 0
+  Meaning2 ZeroDivisor = (k : ℕ) × (d : ℕ) × ZeroReached2 e kept nb k d
+  Meaning2 Unvoiced = NoZero2 e kept nb × ((d : ℕ) → Passes (search-of e kept fs nb cx thres2 prev corr) d → ⊥)
+  Meaning2 (Winner d j r) = NoZero2 e kept nb × Wins (search-of e kept fs nb cx thres2 prev corr) d j r

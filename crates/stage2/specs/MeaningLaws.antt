@@ -28,7 +28,7 @@ use Rattle.stage2.specs.declared.Stage2.{Stage2}
 use Rattle.stage2.specs.declared.Stage2.the-variants.{ZeroDivisor, Unvoiced, Winner}
 use Rattle.stage2.specs.Scores.{contour-sum, place-no, best-contour, lag-sum, Search2, passes2, score2}
 use Rattle.stage2.specs.Stage2.{winner, won, picked, search-of, stage2}
-use Rattle.stage2.specs.Meaning.{ZeroReached2, NoZero2, FirstContour, Passes, Wins, Meaning}
+use Rattle.stage2.specs.Meaning.{ZeroReached2, NoZero2, FirstContour, Passes, Wins, Meaning2}
 
 -- ---- a lag's sum is that of its first contour of greatest sum
 
@@ -161,7 +161,7 @@ module _ (e : List ℤ) (kept : List ℕ) (fs nb cx : ℕ) (thres2 prev corr : �
   searched = search-of e kept fs nb cx thres2 prev corr
 
   abbrev Means : Stage2 → Type 0
-  Means = Meaning e kept fs nb cx thres2 prev corr
+  Means = Meaning2 e kept fs nb cx thres2 prev corr
 
   abbrev answer : Stage2
   answer = stage2 e kept fs nb cx thres2 prev corr

@@ -1,4 +1,4 @@
--- Stage 2's answer in document 01's numbers has the verdict and the values that its definitions say.
+-- Stage 2's answer in numbers has the verdict and the values that its definitions say.
 use mathlib.Core.Path.{_≡_, refl, ap, _∙_}
 use mathlib.Core.Bool.{Bool, true, false, cond}
 use mathlib.Core.List.{List}

@@ -1,7 +1,6 @@
 -- Laws of stage 2's numbers: sums over the subframes, sizes by which every step fits, and the best contour.
 use mathlib.Core.Path.{_≡_, refl, sym, ap, ap₂, _∙_}
 use mathlib.Core.Bool.{Bool, true, false, _&&_, cond}
-use mathlib.Core.List.{List}
 use Prim.Native.Nat.{ℕ, zero, suc, _+_, _*_, _/_, _^_, _<_, _≤_}
 use native.Mathlib.Nat.{div-lt-iff-lt-mul, mul-le-mul-right}
 use native.Mathlib.Numerals.{add-one}

@@ -15,7 +15,7 @@ use borrow.Author.Tests.{eq-eqb, ne-eqb}
 use Rattle.lists.specs.Fill.{tabulate, filled}
 use Rattle.lists.specs.FillLaws.{getD-tabulate, getD-filled}
 use Rattle.stage2_correlations.specs.Marks.{listed}
-use Rattle.stage2_correlations.specs.Correlations.{correlation2, zero2}
+use Rattle.stage2_correlations.specs.Correlations.{correlation2}
 use Rattle.stage2_correlations.specs.RowLaws.{correlation-small, zero-in2, zero2-subframes}
 use Rattle.stage2.specs.declared.Stage2.the-variants.{ZeroDivisor, Unvoiced, Winner}
 use Rattle.stage2.specs.declared.BestLag.{BestLag}

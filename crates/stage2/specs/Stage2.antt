@@ -50,7 +50,7 @@ search-of e kept fs nb cx thres2 prev corr = search-by (correlation2 e kept) kep
 unfoldable pub stage2 : List ℤ → List ℕ → ℕ → ℕ → ℕ → ℤ → ℤ → ℤ → Stage2
 stage2 e kept fs nb cx thres2 prev corr = cond (zero2 e kept nb) ZeroDivisor (picked (search-of e kept fs nb cx thres2 prev corr))
 
--- ---- the answer in document 01's numbers
+-- ---- the answer in numbers (docs/SCOPE.md, Stages)
 
 -- the answer's cases: a zero divisor is verdict 2, unvoiced verdict 1, and a winner verdict 0 with its lag, contour and correlation
 abbrev pub stage2-numbers : Stage2 → List ℤ

@@ -1,6 +1,6 @@
 // Stage 2 of the pitch analyser: the lag at 8 kHz with the best biased score among those that pass.
 // The functions are our cut of the source: `silk_pitch_analysis_core` (pitch_analysis.rs) does all this in its lines 333 to 502, the measurements (`stage2_correlations`) up
-// to 392. The macros and tables are the source's, and so are the names of constants and variables.
+// to 392. The macros and tables are the source's, and so are the names of constants and of most variables.
 ghost use mathlib.Core.Path.{_≡_};
 ghost use Prim.Native.Nat.{_≤_, _<_};
 ghost use lib.IntN.{pos, natAbs};

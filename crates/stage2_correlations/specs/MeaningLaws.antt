@@ -1,4 +1,4 @@
--- The listed and the measured lags are those of `Meaning`'s words; document 01's examples of them; at most 24 lags are listed.
+-- The listed and the measured lags are those of `Meaning`'s words; examples of them; at most 24 lags are listed.
 use mathlib.Core.Path.{_≡_, refl, ap, ap₂, _∙_}
 use mathlib.Core.Bool.{Bool, true, false, _&&_, _||_, cond, false≢true}
 use mathlib.Core.List.{List, [], _∷_, _++_}

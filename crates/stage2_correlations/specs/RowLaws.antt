@@ -27,22 +27,22 @@ use Rattle.silk_sigproc.specs.DotLaws.{dot-slide}
 use Rattle.stage2_correlations.specs.Marks.{near, marked, measured}
 use Rattle.stage2_correlations.specs.MarkLaws.{too-high}
 use Rattle.stage2_correlations.specs.Correlations.{target2, cross-sum2, target-energy2, basis-energy2, divisor-sum2, cross2, divisor2, quotient2, correlation2, zero-reached2, divisors2, subframe-no, lag-no2, zero2}
-use Rattle.stage2_correlations.specs.Rows.{reached, ratio-of, at-lag, value-at, zero-at, subframe-row}
+use Rattle.stage2_correlations.specs.Rows.{reached-ratio, ratio-of, at-lag, value-at, zero-at, subframe-row}
 
 -- ---- the quotient's two answers
 
 module _ (x n : ℤ) where
   pub ratio-none : ltZ (pos 0) x ≡ false → record { zero = false; value = pos 0 } ≡ ratio-of x n
   unfolding ratio-of
-  ratio-none h = sym (ap (λ (t : Bool). reached t (quotient x n (pos 14))) h)
+  ratio-none h = sym (ap (λ (t : Bool). reached-ratio t (quotient x n (pos 14))) h)
 
   pub ratio-value : (q : ℤ) → ltZ (pos 0) x ≡ true → quotient x n (pos 14) ≡ Value q → record { zero = false; value = wrap w16 q } ≡ ratio-of x n
   unfolding ratio-of
-  ratio-value q h e = sym (ap₂ reached h e)
+  ratio-value q h e = sym (ap₂ reached-ratio h e)
 
   pub ratio-zero : ltZ (pos 0) x ≡ true → quotient x n (pos 14) ≡ ZeroDivisor → record { zero = true; value = pos 0 } ≡ ratio-of x n
   unfolding ratio-of
-  ratio-zero h e = sym (ap₂ reached h e)
+  ratio-zero h e = sym (ap₂ reached-ratio h e)
 
 -- ---- the divisor from the two energies, and the basis energy one sample earlier
 

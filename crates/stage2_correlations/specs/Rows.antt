@@ -17,11 +17,11 @@ use Rattle.stage2_correlations.specs.declared.SubframeRow.{SubframeRow}
 use Rattle.stage2_correlations.specs.Correlations.{cross2, quotient2}
 
 -- a quotient where the test holds: its low 16 bits, and whether its divisor is zero
-abbrev pub reached : Bool → Quotient → Ratio
-reached t q = record { zero = t && by-zero q; value = cond t (low16-of q) (pos 0) }
+abbrev pub reached-ratio : Bool → Quotient → Ratio
+reached-ratio t q = record { zero = t && by-zero q; value = cond t (low16-of q) (pos 0) }
 
 unfoldable pub ratio-of : ℤ → ℤ → Ratio
-ratio-of x n = reached (ltZ (pos 0) x) (quotient x n (pos 14))
+ratio-of x n = reached-ratio (ltZ (pos 0) x) (quotient x n (pos 14))
 
 unfoldable pub at-lag : Bool → List ℤ → ℕ → ℕ → ℤ → Ratio
 at-lag m e t d n = cond m (ratio-of (wrap w32 (dot (drop t e) (drop (t - d) e) 40)) n) (record { zero = false; value = pos 0 })

@@ -10,7 +10,7 @@ use mir.Syntax.{w32}
 use Rattle.zint.specs.ReadLaws.{r-var, r-elem}
 use Rattle.zint.specs.RuleLaws.{zneeds}
 use Rattle.pitch_settings.specs.SettingsLaws.{accepted-settings}
-use Rattle.stage1.specs.Stage1.{stage1, kept}
+use Rattle.stage1.specs.Stage1.{stage1, kept-lags}
 use Rattle.stage1.specs.AnswerLaws.{kept-few, kept-low, kept-high, answer-size, answer-count, answer-kept}
 use Rattle.stage1.specs.declared.Screen.{Screen}
 use Rattle.stage1.specs.declared.Screen.the-variants.{Goes}
@@ -33,7 +33,7 @@ module _ (c : tie.After-search-stage1) where
   first = stage1 (start .args .f .now) (start .args .s .nb) (start .args .s .complexity) (start .args .s .thres1)
 
   abbrev lags : List ℕ
-  lags = kept (start .args .f .now) (start .args .s .nb) (start .args .s .complexity) (start .args .s .thres1)
+  lags = kept-lags (start .args .f .now) (start .args .s .nb) (start .args .s .complexity) (start .args .s .thres1)
 
   answer : c .search-stage1 .result ≡ first
   answer = c .search-stage1 .ensures .0 ∙ ap (stage1 (start .args .f .now) (start .args .s .nb) (start .args .s .complexity)) (r-elem w32 (start .args .s .thres1) (c .before .struct-told .given .1 .1 .1 .0 .1) .val)

@@ -1,6 +1,5 @@
 -- `stage2::try_lag` meets its contract.
 use mathlib.Core.Path.{_≡_, sym, ap, _∙_}
-use lib.IntN.{ℤ}
 use mir.Syntax.{w32}
 use mir.Val.{toZ, ofZ}
 use Rattle.zint.specs.ReadLaws.{r-got}
