@@ -1,4 +1,4 @@
--- What writing and reading a sheet say and leave, in every case (document 01, "What a call can say"). The sheet's bytes are `Sheet` of sheet_sections, the rows that it can hold `Rows`
+-- What writing and reading a sheet say and leave, in every case (docs/SCOPE.md, Refusals). The sheet's bytes are `Sheet` of sheet_sections, the rows that it can hold `Rows`
 -- of sheet_rows, and a page's contents `Page` of sheet_page. Definitions only.
 use mathlib.Core.Bool.{Bool, cond}
 use mathlib.Core.List.{List, [], _∷_, _++_}
@@ -9,9 +9,9 @@ use lib.ListN.{length, drop}
 use Rattle.best.specs.Best.{every}
 use Rattle.pitch_settings.specs.declared.Settings.{Settings}
 use Rattle.pitch_settings.specs.Settings.{settings-no}
-use Rattle.pitch_table.specs.Row.{row-size, row-at}
+use Rattle.pitch_table.specs.Row.{row-size, most-frames, row-at}
 use Rattle.sheet_rows.specs.Rows.{row-holds}
-use Rattle.sheet_sections.specs.Sheet.{sheet, rows-of}
+use Rattle.sheet_sections.specs.Sheet.{setting-numbers, rows-of, sheet}
 use Rattle.sheet_page.specs.Page.{sheet-settings, frames-in, page-no, rows-in, numbers-of}
 use Rattle.pitch_sheet.specs.declared.Wrote.{Wrote}
 use Rattle.pitch_sheet.specs.declared.Wrote.the-variants.{Written, Refused as NotWritten}
@@ -28,12 +28,12 @@ rows-hold s t n = every n (λ i. row-holds s (row-at t i))
 
 -- ---- writing
 
--- the refusal of writing n frames on a page of `room` bytes, or 0: 1, 2, 3 the settings; 6 over 4,096 frames; 9 a row that is there, among the first n, breaks the rules; 7 the table has
+-- the refusal of writing n frames on a page of `room` bytes, or 0: 1, 2, 3 the settings; 6 more frames than a sheet may have; 9 a row that is there, among the first n, breaks the rules; 7 the table has
 -- fewer whole rows; 8 the page is shorter than the sheet
 unfoldable pub write-no : Settings → ℕ → List ℤ → ℕ → ℕ
 write-no s n t room =
     cond (eqb (settings-no s) 0)
-    (cond (leb n 4096)
+    (cond (leb n most-frames)
     (cond (rows-hold s t (min n (whole-rows t)))
     (cond (leb n (whole-rows t))
     (cond (leb (length (sheet s (rows-of t n))) room) 0 8)
@@ -56,7 +56,7 @@ write-call s n t page =
     (wrote (Written (length (sheet s (rows-of t n)))) (sheet s (rows-of t n) ++ drop (length (sheet s (rows-of t n))) page))
     (wrote (NotWritten (write-no s n t (length page))) page)
 
--- the answer in document 01's numbers: 0 and the bytes written, or the number of the refusal
+-- the answer in numbers: 0 and the bytes written, or the number of the refusal
 unfoldable pub write-numbers : Wrote → List ℤ
 write-numbers (Written n) = pos 0 ∷ pos n ∷ []
 write-numbers (NotWritten k) = pos k ∷ []
@@ -81,10 +81,7 @@ read-call page t =
     (got (Read (sheet-settings page) (frames-in page)) (numbers-of (rows-in page) ++ drop (frames-in page * row-size) t))
     (got (NotRead (read-no page t)) t)
 
--- the answer in document 01's numbers: 0, the five settings and the frame count, or the number of the refusal
-unfoldable pub settings-numbers : Settings → List ℤ
-settings-numbers s = pos (s .rate) ∷ pos (s .nb) ∷ pos (s .complexity) ∷ s .thres1 ∷ s .thres2 ∷ []
-
+-- the answer in numbers: 0, the settings and the frame count, or the number of the refusal
 unfoldable pub read-numbers : Got → List ℤ
-read-numbers (Read s n) = pos 0 ∷ (settings-numbers s ++ (pos n ∷ []))
+read-numbers (Read s n) = pos 0 ∷ (setting-numbers s ++ (pos n ∷ []))
 read-numbers (NotRead k) = pos k ∷ []

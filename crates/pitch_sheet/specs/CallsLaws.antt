@@ -14,16 +14,16 @@ use Rattle.best.specs.BestLaws.{every-true, every-false}
 use Rattle.lists.specs.FillLaws.{length-tabulate}
 use Rattle.pitch_settings.specs.declared.Settings.{Settings}
 use Rattle.pitch_settings.specs.Settings.{settings-no}
-use Rattle.pitch_table.specs.Row.{row-size, row-at}
+use Rattle.pitch_table.specs.Row.{row-size, most-frames, row-at}
 use Rattle.sheet_rows.specs.Rows.{row-holds}
-use Rattle.sheet_sections.specs.Sheet.{sheet, rows-of}
-use Rattle.sheet_page.specs.Page.{sheet-settings, frames-in, well-formed, page-no, row-in, held, rows-in, numbers-of}
+use Rattle.sheet_sections.specs.Sheet.{setting-numbers, rows-of, sheet}
+use Rattle.sheet_page.specs.Page.{sheet-settings, frames-in, well-formed, page-no, row-in, row-found, rows-in, numbers-of}
 use Rattle.sheet_page.specs.PageLaws.{numbers-length}
 use Rattle.pitch_sheet.specs.declared.Wrote.{Wrote}
 use Rattle.pitch_sheet.specs.declared.Wrote.the-variants.{Written, Refused as NotWritten}
 use Rattle.pitch_sheet.specs.declared.Got.{Got}
 use Rattle.pitch_sheet.specs.declared.Got.the-variants.{Read, Refused as NotRead}
-use Rattle.pitch_sheet.specs.Calls.{whole-rows, rows-hold, write-no, WriteOutcome, wrote, write-call, write-numbers, read-no, ReadOutcome, got, read-call, settings-numbers, read-numbers}
+use Rattle.pitch_sheet.specs.Calls.{whole-rows, rows-hold, write-no, WriteOutcome, wrote, write-call, write-numbers, read-no, ReadOutcome, got, read-call, read-numbers}
 
 -- ---- rows
 
@@ -51,50 +51,50 @@ module _ (s : Settings) (n : ℕ) (t : List ℤ) (room : ℕ) where
   no-settings g = rw (ne-eqb (settings-no s) 0 g)
 
   module _ (a : settings-no s ≡ 0) where
-    pub no-frames : 4096 < n → write-no s n t room ≡ 6
+    pub no-frames : most-frames < n → write-no s n t room ≡ 6
     unfolding write-no
-    no-frames h = rw (eq-eqb (settings-no s) 0 a, lt-leb n 4096 h)
+    no-frames h = rw (eq-eqb (settings-no s) 0 a, lt-leb n most-frames h)
 
-    module _ (h : n ≤ 4096) where
+    module _ (h : n ≤ most-frames) where
       -- the rows that are there
       pub no-rows : {m : ℕ} → m ≡ min n (whole-rows t) → rows-hold s t m ≡ false → write-no s n t room ≡ 9
       unfolding write-no
-      no-rows e f = rw (eq-eqb (settings-no s) 0 a, le-leb n 4096 h, ← e, f)
+      no-rows e f = rw (eq-eqb (settings-no s) 0 a, le-leb n most-frames h, ← e, f)
 
       module _ {m : ℕ} (e : m ≡ min n (whole-rows t)) (f : rows-hold s t m ≡ true) where
         pub no-table : whole-rows t < n → write-no s n t room ≡ 7
         unfolding write-no
-        no-table k = rw (eq-eqb (settings-no s) 0 a, le-leb n 4096 h, ← e, f, lt-leb n (whole-rows t) k)
+        no-table k = rw (eq-eqb (settings-no s) 0 a, le-leb n most-frames h, ← e, f, lt-leb n (whole-rows t) k)
 
         module _ (k : n ≤ whole-rows t) where
           pub no-room : room < length (sheet s (rows-of t n)) → write-no s n t room ≡ 8
           unfolding write-no
-          no-room l = rw (eq-eqb (settings-no s) 0 a, le-leb n 4096 h, ← e, f, le-leb n (whole-rows t) k, lt-leb (length (sheet s (rows-of t n))) room l)
+          no-room l = rw (eq-eqb (settings-no s) 0 a, le-leb n most-frames h, ← e, f, le-leb n (whole-rows t) k, lt-leb (length (sheet s (rows-of t n))) room l)
 
           pub no-refusal : length (sheet s (rows-of t n)) ≤ room → write-no s n t room ≡ 0
           unfolding write-no
-          no-refusal l = rw (eq-eqb (settings-no s) 0 a, le-leb n 4096 h, ← e, f, le-leb n (whole-rows t) k, le-leb (length (sheet s (rows-of t n))) room l)
+          no-refusal l = rw (eq-eqb (settings-no s) 0 a, le-leb n most-frames h, ← e, f, le-leb n (whole-rows t) k, le-leb (length (sheet s (rows-of t n))) room l)
 
   -- what is known where nothing is refused
   pub record Accepted : Type 0 where
     pub settings : settings-no s ≡ 0
-    pub few : n ≤ 4096
+    pub few : n ≤ most-frames
     pub whole : n * row-size ≤ length t
     pub rows : (i : ℕ) → i < n → row-holds s (row-at t i) ≡ true
     pub fits : length (sheet s (rows-of t n)) ≤ room
 
   pub accepted : write-no s n t room ≡ 0 → Accepted
   unfolding write-no
-  accepted z = by (eqb (settings-no s) 0) (leb n 4096) (rows-hold s t (min n (whole-rows t))) (leb n (whole-rows t)) (leb (length (sheet s (rows-of t n))) room) refl refl refl refl refl z
+  accepted z = by (eqb (settings-no s) 0) (leb n most-frames) (rows-hold s t (min n (whole-rows t))) (leb n (whole-rows t)) (leb (length (sheet s (rows-of t n))) room) refl refl refl refl refl z
     where
-      by : (a b c d e : Bool) → eqb (settings-no s) 0 ≡ a → leb n 4096 ≡ b → rows-hold s t (min n (whole-rows t)) ≡ c → leb n (whole-rows t) ≡ d → leb (length (sheet s (rows-of t n))) room ≡ e
+      by : (a b c d e : Bool) → eqb (settings-no s) 0 ≡ a → leb n most-frames ≡ b → rows-hold s t (min n (whole-rows t)) ≡ c → leb n (whole-rows t) ≡ d → leb (length (sheet s (rows-of t n))) room ≡ e
           → cond a (cond b (cond c (cond d (cond e 0 8) 7) 9) 6) (settings-no s) ≡ 0 → Accepted
       by true true true true true p q r u v z =
           let l = leb-true n (whole-rows t) u in
           let m : min n (whole-rows t) ≡ n = omega arith in
           record {
             settings = eqb-true (settings-no s) 0 p;
-            few = leb-true n 4096 q;
+            few = leb-true n most-frames q;
             whole = omega arith;
             rows = hold-each s t n (ap (rows-hold s t) (sym m) ∙ r);
             fits = leb-true (length (sheet s (rows-of t n))) room v;
@@ -156,13 +156,13 @@ module _ (page : List ℕ) (t : List ℤ) where
 
   -- the answer with its numbers
   pub read-answer : {r : Got} {after : List ℤ} → got r after ≡ read-call page t
-      → (got r after ≡ read-call page t) × (read-numbers r ≡ answer-numbers (read-no page t) (settings-numbers (sheet-settings page) ++ (pos (frames-in page) ∷ [])))
+      → (got r after ≡ read-call page t) × (read-numbers r ≡ answer-numbers (read-no page t) (setting-numbers (sheet-settings page) ++ (pos (frames-in page) ∷ [])))
   unfolding read-call read-numbers
   read-answer e = (e, ap (λ (o : ReadOutcome). read-numbers (o .answer)) e ∙ by (eqb (read-no page t) 0) refl)
     where
       by : (b : Bool) → eqb (read-no page t) 0 ≡ b
           → read-numbers (cond b (got (Read (sheet-settings page) (frames-in page)) (numbers-of (rows-in page) ++ drop (frames-in page * row-size) t)) (got (NotRead (read-no page t)) t) .answer)
-          ≡ pos (read-no page t) ∷ cond b (settings-numbers (sheet-settings page) ++ (pos (frames-in page) ∷ [])) []
+          ≡ pos (read-no page t) ∷ cond b (setting-numbers (sheet-settings page) ++ (pos (frames-in page) ∷ [])) []
       by true q = rw (eqb-true (read-no page t) 0 q)
       by false q = refl
 
@@ -173,4 +173,4 @@ front l xs h = let e : 0 + length xs ≡ length xs = omega arith in sets-eq xs l
 -- the numbers of a page's rows
 pub rows-in-length : (page : List ℕ) → length (numbers-of (rows-in page)) ≡ frames-in page * row-size
 unfolding rows-in
-rows-in-length page = numbers-length (rows-in page) ∙ ap (λ (n : ℕ). n * row-size) (length-tabulate (λ i. held (row-in page i)) (frames-in page))
+rows-in-length page = numbers-length (rows-in page) ∙ ap (λ (n : ℕ). n * row-size) (length-tabulate (λ i. row-found (row-in page i)) (frames-in page))

@@ -1,4 +1,4 @@
--- What a sheet can hold (document 01, "Sheet"). Definition only.
+-- What a sheet can hold (docs/SCOPE.md, Sheet). Definition only.
 use mathlib.Core.Path.{_≡_}
 use mathlib.Core.Bool.{true}
 use mathlib.Core.List.{List}
@@ -10,18 +10,18 @@ use mir.Val.{SFits}
 use Rattle.pitch_settings.specs.declared.Settings.{Settings}
 use Rattle.pitch_settings.specs.Settings.{settings-no}
 use Rattle.pitch_table.specs.declared.Row.{Row}
-use Rattle.pitch_table.specs.Row.{unpitched-row}
-use Rattle.sheet_rows.specs.Rows.{row-holds}
+use Rattle.pitch_table.specs.Row.{most-frames}
+use Rattle.sheet_rows.specs.Rows.{quiet-row, row-holds}
 
 -- what `getD` gives past the end of a list of rows
 abbrev pub no-row : Row
 no-row = unpitched-row (pos 1)
 
--- accepted settings with thresholds of 32 bits, and at most 4,096 rows, each one that a sheet can hold, with a correlation of 32 bits
+-- accepted settings with thresholds of 32 bits, and no more rows than a sheet may have, each one that a sheet can hold, with a correlation of 32 bits
 pub record Holds (s : Settings) (rs : List Row) : Type 0 where
   pub settings : settings-no s ≡ 0
   pub thres1 : SFits w32 (s .thres1)
   pub thres2 : SFits w32 (s .thres2)
-  pub few : length rs ≤ 4096
+  pub few : length rs ≤ most-frames
   pub rows : (i : ℕ) → i < length rs → row-holds s (getD rs i no-row) ≡ true
   pub correlations : (i : ℕ) → i < length rs → SFits w32 (getD rs i no-row .correlation)

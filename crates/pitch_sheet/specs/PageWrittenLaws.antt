@@ -1,7 +1,7 @@
 -- A page that is accepted is the sheet of the settings and rows that it reads as.
 use mathlib.Core.Path.{_≡_, refl, sym, ap, ap₂, _∙_}
 use mathlib.Core.Bool.{Bool, true, false}
-use mathlib.Core.List.{List, [], _∷_, _++_, append-nil}
+use mathlib.Core.List.{List, [], _∷_, _++_, map}
 use mathlib.Core.Logic.{_⊎_, inl, inr, ⊎-elim}
 use Prim.Native.Nat.{ℕ, zero, suc, _+_, _*_, _≤_, _<_}
 use native.Mathlib.Numerals.{add-one}
@@ -18,16 +18,16 @@ use Rattle.lists.specs.Fill.{tabulate}
 use Rattle.lists.specs.FillLaws.{length-tabulate, getD-tabulate}
 use Rattle.pitch_table.specs.declared.Row.{Row}
 use Rattle.sheet_bytes.specs.Bytes.{Bytes, low-bytes, number-at, signed, signed-at}
-use Rattle.sheet_bytes.specs.BytesLaws.{bytes-at, signed-bytes-at}
+use Rattle.sheet_bytes.specs.BytesLaws.{bytes-at, signed-bytes-at, unsigned-bytes-at}
 use Rattle.sheet_rows.specs.declared.RowRead.the-variants.{Held}
 use Rattle.sheet_rows.specs.Rows.{row-of, row-holds}
 use Rattle.sheet_rows.specs.RowsLaws.{stands, stands-pair, stands-again, holds-yes}
 use Rattle.sheet_sections.specs.declared.Section.{Section}
 use Rattle.sheet_sections.specs.declared.Section.the-variants.{Verdicts, Pairs, Correlations}
-use Rattle.sheet_sections.specs.Sheet.{entry, entries, setting-entries, joined, section, sheet, sheet-length, part}
-use Rattle.sheet_sections.specs.SheetLaws.{parts, parts-append, parts-one, parts-length, verdicts-count, correlations-count}
-use Rattle.sheet_sections.specs.PartLaws.{listed-verdict, listed-pair, listed-correlation, unlisted-pair, unlisted-correlation, part-listed, part-none}
-use Rattle.sheet_page.specs.Page.{sheet-settings, frames-in, verdict-in, voiced-before, voiced-in, pairs-from, pair-place, correlations-from, correlation-place, row-in, held, rows-in, well-formed}
+use Rattle.sheet_sections.specs.Sheet.{settings-count, count-bytes, setting-bytes, index-bytes, entry-bytes, section-bytes, setting-place, frames-at, verdicts-at, pairs-count-at, pairs-at, correlations-count-at, correlations-at, sheet-length, entry, section-entries, setting-numbers, setting-entries, concat, section, sheet, row-bytes}
+use Rattle.sheet_sections.specs.SheetLaws.{rows-bytes, rows-bytes-append, rows-bytes-one, rows-bytes-length, verdicts-count, correlations-count}
+use Rattle.sheet_sections.specs.RowBytesLaws.{has-verdict, has-pair, has-correlation, no-pair, no-correlation, bytes-entry, bytes-none}
+use Rattle.sheet_page.specs.Page.{sheet-settings, frames-in, verdict-in, voiced-before, voiced-in, pairs-from, pair-place, correlations-from, correlation-place, row-in, row-found, rows-in, well-formed}
 use Rattle.sheet_page.specs.PageLaws.{Good, good, places, verdict-within, voiced-yes, voiced-no, row-voiced, row-quiet, row-verdict, first-rows}
 use Rattle.pitch_sheet.specs.SheetReadLaws.{quiet-zero}
 use Rattle.pitch_sheet.specs.Holds.{no-row, Holds}
@@ -40,6 +40,12 @@ module _ (p : List ℕ) where
   one-byte : (a : ℕ) → a < length p → getD p a 0 ∷ [] ≡ take 1 (drop a p)
   one-byte a h = sym (ap (take 1) (drop-cons p a 0 h))
 
+times-next : (w m : ℕ) → w * (m + 1) ≡ w * m + w
+times-next w m = omega arith
+
+times-none : (w : ℕ) → w * 0 ≡ 0
+times-none w = omega arith
+
 module _ (p : List ℕ) (bytes : Bytes p) (fine : well-formed p ≡ true) where
   abbrev g : Good p
   g = good p fine
@@ -51,9 +57,9 @@ module _ (p : List ℕ) (bytes : Bytes p) (fine : well-formed p ≡ true) where
   v = voiced-in p
 
   abbrev row : ℕ → Row
-  row i = held (row-in p i)
+  row i = row-found (row-in p i)
 
-  row-is : (i : ℕ) → i < frames-in p → row-in p i ≡ Held (held (row-in p i))
+  row-is : (i : ℕ) → i < frames-in p → row-in p i ≡ Held (row-found (row-in p i))
   row-is i l = g .rows i l
 
   decide : (i : ℕ) → (verdict-in p i ≡ 0) ⊎ (verdict-in p i ≡ 0 → ⊥)
@@ -79,8 +85,8 @@ module _ (p : List ℕ) (bytes : Bytes p) (fine : well-formed p ≡ true) where
     row-stands =
         ⊎-elim
         (λ z.
-        let a = pos (number-at 2 p (pair-place p i)) in
-        let b = pos (getD p (pair-place p i + 2) 0) in
+        let a = pos (number-at index-bytes p (pair-place p i)) in
+        let b = pos (getD p (pair-place p i + index-bytes) 0) in
         let c = signed-at p (correlation-place p i) in
         stands-again (sheet-settings p) (pos 0) a b c (row i) (stands (sheet-settings p) (pos 0) a b c (row i) (sym (row-voiced p i z) ∙ row-is i l)))
         (λ o.
@@ -92,10 +98,10 @@ module _ (p : List ℕ) (bytes : Bytes p) (fine : well-formed p ≡ true) where
     row-fine = holds-yes (sheet-settings p) (row i) row-stands
 
     numbers : verdict-in p i ≡ 0
-        → (row i .index ≡ pos (number-at 2 p (pair-place p i))) × (row i .contour ≡ pos (getD p (pair-place p i + 2) 0)) × (row i .correlation ≡ signed-at p (correlation-place p i))
+        → (row i .index ≡ pos (number-at index-bytes p (pair-place p i))) × (row i .contour ≡ pos (getD p (pair-place p i + index-bytes) 0)) × (row i .correlation ≡ signed-at p (correlation-place p i))
     numbers z =
-        let a = pos (number-at 2 p (pair-place p i)) in
-        let b = pos (getD p (pair-place p i + 2) 0) in
+        let a = pos (number-at index-bytes p (pair-place p i)) in
+        let b = pos (getD p (pair-place p i + index-bytes) 0) in
         let c = signed-at p (correlation-place p i) in
         stands-pair (sheet-settings p) (pos 0) a b c (row i) (stands (sheet-settings p) (pos 0) a b c (row i) (sym (row-voiced p i z) ∙ row-is i l)) refl
 
@@ -109,40 +115,45 @@ module _ (p : List ℕ) (bytes : Bytes p) (fine : well-formed p ≡ true) where
 
     -- ---- one row's bytes
 
-    verdict-part : part Verdicts (row i) ≡ take 1 (drop (28 + i) p)
+    verdict-part : row-bytes Verdicts (row i) ≡ take (entry-bytes Verdicts) (drop (verdicts-at + i) p)
     unfolding entry verdict-in
-    verdict-part = part-listed Verdicts (row i) (listed-verdict (row i)) ∙ ap (λ (x : ℕ). x ∷ []) (ap natAbs verdict-is) ∙ one-byte p (28 + i) (verdict-within p (g .sizes) i l)
+    verdict-part = bytes-entry Verdicts (row i) (has-verdict (row i)) ∙ ap (λ (x : ℕ). x ∷ []) (ap natAbs verdict-is) ∙ one-byte p (verdicts-at + i) (verdict-within p (g .sizes) i l)
 
-    pair-part : verdict-in p i ≡ 0 → part Pairs (row i) ≡ take 3 (drop (pair-place p i) p)
+    pair-part : verdict-in p i ≡ 0 → row-bytes Pairs (row i) ≡ take (entry-bytes Pairs) (drop (pair-place p i) p)
     unfolding entry
     pair-part z =
         let w = places p (g .sizes) i l z in
         let a = pair-place p i in
-        part-listed Pairs (row i) (listed-pair (row i) (voiced z))
+        bytes-entry Pairs (row i) (has-pair (row i) (voiced z))
         ∙ ap₂ (λ (x : List ℕ) (y : List ℕ). x ++ y)
-        (ap (λ (k : ℤ). low-bytes 2 (natAbs k)) (numbers z .0) ∙ bytes-at 2 p a bytes (omega (arith, w .pair-within)))
-        (ap (λ (k : ℤ). natAbs k ∷ []) (numbers z .1) ∙ one-byte p (a + 2) (omega (arith, w .pair-within)))
-        ∙ glue p a 2 1
+        (ap (λ (k : ℤ). low-bytes index-bytes (natAbs k)) (numbers z .0) ∙ bytes-at index-bytes p a bytes (omega (arith, w .pair-within)))
+        (ap (λ (k : ℤ). natAbs k ∷ []) (numbers z .1) ∙ one-byte p (a + index-bytes) (omega (arith, w .pair-within)))
+        ∙ glue p a index-bytes 1
 
-    correlation-part : verdict-in p i ≡ 0 → part Correlations (row i) ≡ take 4 (drop (correlation-place p i) p)
+    correlation-part : verdict-in p i ≡ 0 → row-bytes Correlations (row i) ≡ take (entry-bytes Correlations) (drop (correlation-place p i) p)
     unfolding entry
     correlation-part z =
         let w = places p (g .sizes) i l z in
-        part-listed Correlations (row i) (listed-correlation (row i) (voiced z)) ∙ ap signed (numbers z .2) ∙ signed-bytes-at p (correlation-place p i) bytes (w .correlation-within)
+        bytes-entry Correlations (row i) (has-correlation (row i) (voiced z)) ∙ ap signed (numbers z .2) ∙ signed-bytes-at p (correlation-place p i) bytes (w .correlation-within)
 
   -- ---- a section's bytes, row by row
 
-  parts-next : (k : Section) (i : ℕ) → parts k (first-rows p (suc i)) ≡ parts k (first-rows p i) ++ part k (row i)
+  rows-bytes-next : (k : Section) (i : ℕ) → rows-bytes k (first-rows p (suc i)) ≡ rows-bytes k (first-rows p i) ++ row-bytes k (row i)
   unfolding tabulate
-  parts-next k i = parts-append k (first-rows p i) (row i ∷ []) ∙ ap (λ (l : List ℕ). parts k (first-rows p i) ++ l) (parts-one k (row i))
+  rows-bytes-next k i = rows-bytes-append k (first-rows p i) (row i ∷ []) ∙ ap (λ (l : List ℕ). rows-bytes k (first-rows p i) ++ l) (rows-bytes-one k (row i))
 
-  stretch : (k : Section) (a m d i t : ℕ) → parts k (first-rows p i) ≡ take m (drop a p) → part k (row i) ≡ take d (drop (a + m) p) → m + d ≡ t → parts k (first-rows p (suc i)) ≡ take t (drop a p)
-  stretch k a m d i t e f q = parts-next k i ∙ ap₂ (λ (x : List ℕ) (y : List ℕ). x ++ y) e f ∙ glue p a m d ∙ ap (λ (j : ℕ). take j (drop a p)) q
+  stretch : (k : Section) (a m d i t : ℕ) → rows-bytes k (first-rows p i) ≡ take m (drop a p) → row-bytes k (row i) ≡ take d (drop (a + m) p) → m + d ≡ t → rows-bytes k (first-rows p (suc i)) ≡ take t (drop a p)
+  stretch k a m d i t e f q = rows-bytes-next k i ∙ ap₂ (λ (x : List ℕ) (y : List ℕ). x ++ y) e f ∙ glue p a m d ∙ ap (λ (j : ℕ). take j (drop a p)) q
 
-  verdict-bytes : (i : ℕ) → i ≤ frames-in p → parts Verdicts (first-rows p i) ≡ take i (drop 28 p)
-  unfolding tabulate entries joined
+  verdict-bytes : (i : ℕ) → i ≤ frames-in p → rows-bytes Verdicts (first-rows p i) ≡ take (entry-bytes Verdicts * i) (drop verdicts-at p)
+  unfolding tabulate section-entries concat
   verdict-bytes zero l = refl
-  verdict-bytes (suc i) l = stretch Verdicts 28 i 1 i (suc i) (verdict-bytes i (omega arith)) (verdict-part i (omega arith)) (omega arith)
+  verdict-bytes (suc i) l =
+      let e : verdicts-at + i ≡ verdicts-at + entry-bytes Verdicts * i = omega arith in
+      stretch Verdicts verdicts-at (entry-bytes Verdicts * i) (entry-bytes Verdicts) i (entry-bytes Verdicts * suc i)
+      (verdict-bytes i (omega arith))
+      (verdict-part i (omega arith) ∙ ap (λ (a : ℕ). take (entry-bytes Verdicts) (drop a p)) e)
+      (omega arith)
 
   -- one more verdict
   voiced-suc : (i : ℕ) → verdict-in p i ≡ 0 → voiced-before p (suc i) ≡ voiced-before p i + 1
@@ -151,107 +162,124 @@ module _ (p : List ℕ) (bytes : Bytes p) (fine : well-formed p ≡ true) where
   quiet-suc : (i : ℕ) → (verdict-in p i ≡ 0 → ⊥) → voiced-before p (suc i) ≡ voiced-before p i
   quiet-suc i o = ap (voiced-before p) (sym (add-one i)) ∙ voiced-no p i o
 
-  pair-bytes : (i : ℕ) → i ≤ frames-in p → parts Pairs (first-rows p i) ≡ take (3 * voiced-before p i) (drop (32 + n) p)
-  unfolding tabulate entries joined voiced-before
-  pair-bytes zero l = refl
-  pair-bytes (suc i) l = pair-step i (omega arith) (pair-bytes i (omega arith))
-    where
-      pair-step : (i : ℕ) → i < frames-in p → parts Pairs (first-rows p i) ≡ take (3 * voiced-before p i) (drop (32 + n) p) → parts Pairs (first-rows p (suc i)) ≡ take (3 * voiced-before p (suc i)) (drop (32 + n) p)
-      pair-step i k e =
-          ⊎-elim
-          (λ z. stretch Pairs (32 + n) (3 * voiced-before p i) 3 i (3 * voiced-before p (suc i)) e (pair-part i k z ∙ ap (λ (a : ℕ). take 3 (drop a p)) (places p (g .sizes) i k z .pair-is)) (omega (arith, voiced-suc i z)))
-          (λ o. stretch Pairs (32 + n) (3 * voiced-before p i) 0 i (3 * voiced-before p (suc i)) e (part-none Pairs (row i) (unlisted-pair (row i) (not-voiced i k o))) (omega (arith, quiet-suc i o)))
-          (decide i)
+  -- a section with an entry for every voiced frame: its entries stand one after the other from `a` on
+  module _ (k : Section) (a : ℕ)
+      (some : (i : ℕ) → i < frames-in p → verdict-in p i ≡ 0 → row-bytes k (row i) ≡ take (entry-bytes k) (drop (a + entry-bytes k * voiced-before p i) p))
+      (none : (i : ℕ) → i < frames-in p → (verdict-in p i ≡ 0 → ⊥) → row-bytes k (row i) ≡ []) where
+    voiced-step : (i : ℕ) → i < frames-in p → rows-bytes k (first-rows p i) ≡ take (entry-bytes k * voiced-before p i) (drop a p) → rows-bytes k (first-rows p (suc i)) ≡ take (entry-bytes k * voiced-before p (suc i)) (drop a p)
+    voiced-step i l e =
+        let w = entry-bytes k in
+        let m = voiced-before p i in
+        ⊎-elim
+        (λ z. stretch k a (w * m) w i (w * voiced-before p (suc i)) e (some i l z) (sym (ap (λ (j : ℕ). w * j) (voiced-suc i z) ∙ times-next w m)))
+        (λ o. stretch k a (w * m) 0 i (w * voiced-before p (suc i)) e (none i l o) (omega (arith, ap (λ (j : ℕ). w * j) (quiet-suc i o))))
+        (decide i)
 
-  correlation-bytes : (i : ℕ) → i ≤ frames-in p → parts Correlations (first-rows p i) ≡ take (4 * voiced-before p i) (drop (36 + n + 3 * v) p)
-  unfolding tabulate entries joined voiced-before
-  correlation-bytes zero l = refl
-  correlation-bytes (suc i) l = correlation-step i (omega arith) (correlation-bytes i (omega arith))
-    where
-      correlation-step : (i : ℕ) → i < frames-in p → parts Correlations (first-rows p i) ≡ take (4 * voiced-before p i) (drop (36 + n + 3 * v) p) → parts Correlations (first-rows p (suc i)) ≡ take (4 * voiced-before p (suc i)) (drop (36 + n + 3 * v) p)
-      correlation-step i k e =
-          ⊎-elim
-          (λ z. stretch Correlations (36 + n + 3 * v) (4 * voiced-before p i) 4 i (4 * voiced-before p (suc i)) e (correlation-part i k z ∙ ap (λ (a : ℕ). take 4 (drop a p)) (places p (g .sizes) i k z .correlation-is)) (omega (arith, voiced-suc i z)))
-          (λ o. stretch Correlations (36 + n + 3 * v) (4 * voiced-before p i) 0 i (4 * voiced-before p (suc i)) e (part-none Correlations (row i) (unlisted-correlation (row i) (not-voiced i k o))) (omega (arith, quiet-suc i o)))
-          (decide i)
+    voiced-bytes : (i : ℕ) → i ≤ frames-in p → rows-bytes k (first-rows p i) ≡ take (entry-bytes k * voiced-before p i) (drop a p)
+    unfolding tabulate section-entries concat voiced-before
+    voiced-bytes zero l = ap (λ (j : ℕ). take j (drop a p)) (sym (times-none (entry-bytes k)))
+    voiced-bytes (suc i) l = voiced-step i (omega arith) (voiced-bytes i (omega arith))
 
   -- ---- the sections
 
   abbrev rs : List Row
   rs = rows-in p
 
-  long : length p ≡ 36 + n + 7 * v
-  unfolding sheet-length
-  long = g .sizes .whole ∙ omega arith
+  long : length p ≡ sheet-length n v
+  long = g .sizes .whole
 
   rows-length : length (rows-in p) ≡ frames-in p
   unfolding rows-in
   rows-length = length-tabulate row (frames-in p)
 
-  pairs-are : parts Pairs (rows-in p) ≡ take (3 * v) (drop (32 + n) p)
+  pairs-are : rows-bytes Pairs (rows-in p) ≡ take (entry-bytes Pairs * v) (drop (pairs-at n) p)
   unfolding rows-in voiced-in
-  pairs-are = pair-bytes n (omega arith)
+  pairs-are =
+      voiced-bytes Pairs (pairs-at n)
+      (λ i l z. pair-part i l z ∙ ap (λ (a : ℕ). take (entry-bytes Pairs) (drop a p)) (places p (g .sizes) i l z .pair-is))
+      (λ i l o. bytes-none Pairs (row i) (no-pair (row i) (not-voiced i l o)))
+      n (omega arith)
 
-  correlations-are : parts Correlations (rows-in p) ≡ take (4 * v) (drop (36 + n + 3 * v) p)
+  correlations-are : rows-bytes Correlations (rows-in p) ≡ take (entry-bytes Correlations * v) (drop (correlations-at n v) p)
   unfolding rows-in voiced-in
-  correlations-are = correlation-bytes n (omega arith)
+  correlations-are =
+      voiced-bytes Correlations (correlations-at n v)
+      (λ i l z. correlation-part i l z ∙ ap (λ (a : ℕ). take (entry-bytes Correlations) (drop a p)) (places p (g .sizes) i l z .correlation-is))
+      (λ i l o. bytes-none Correlations (row i) (no-correlation (row i) (not-voiced i l o)))
+      n (omega arith)
 
-  pairs-count : length (entries Pairs (rows-in p)) ≡ v
+  pairs-count : length (section-entries Pairs (rows-in p)) ≡ v
   pairs-count =
-      let a = parts-length Pairs (rows-in p) in
-      let b : length (take (3 * v) (drop (32 + n) p)) ≡ 3 * v = length-take-le (3 * v) (drop (32 + n) p) (rw length-drop (omega (arith, long))) in
+      let a = rows-bytes-length Pairs (rows-in p) in
+      let b : length (take (entry-bytes Pairs * v) (drop (pairs-at n) p)) ≡ entry-bytes Pairs * v = length-take-le (entry-bytes Pairs * v) (drop (pairs-at n) p) (rw length-drop (omega (arith, long))) in
       omega (arith, a, ap length pairs-are, b)
 
   -- a section, from `a` on
-  section-bytes : (k : Section) (a m : ℕ) → length (entries k (rows-in p)) ≡ number-at 4 p a → a + 4 ≤ length p → parts k (rows-in p) ≡ take m (drop (a + 4) p) → section (entries k (rows-in p)) ≡ take (4 + m) (drop a p)
+  section-taken : (k : Section) (a m : ℕ) → length (section-entries k (rows-in p)) ≡ number-at count-bytes p a → a + count-bytes ≤ length p → rows-bytes k (rows-in p) ≡ take m (drop (a + count-bytes) p) → section (section-entries k (rows-in p)) ≡ take (count-bytes + m) (drop a p)
   unfolding section
-  section-bytes k a m e l f = ap₂ (λ (x : List ℕ) (y : List ℕ). x ++ y) (ap (low-bytes 4) e ∙ bytes-at 4 p a bytes l) f ∙ glue p a 4 m
+  section-taken k a m e l f = ap₂ (λ (x : List ℕ) (y : List ℕ). x ++ y) (ap (low-bytes count-bytes) e ∙ bytes-at count-bytes p a bytes l) f ∙ glue p a count-bytes m
 
-  verdicts-section : section (entries Verdicts (rows-in p)) ≡ take (4 + n) (drop 24 p)
+  verdicts-section : section (section-entries Verdicts (rows-in p)) ≡ take (section-bytes (entry-bytes Verdicts) n) (drop frames-at p)
   unfolding frames-in rows-in
-  verdicts-section = section-bytes Verdicts 24 n (verdicts-count (rows-in p) ∙ rows-length) (omega (arith, long)) (verdict-bytes n (omega arith))
+  verdicts-section = section-taken Verdicts frames-at (entry-bytes Verdicts * n) (verdicts-count (rows-in p) ∙ rows-length) (omega (arith, long)) (verdict-bytes n (omega arith))
 
-  pairs-section : section (entries Pairs (rows-in p)) ≡ take (4 + 3 * v) (drop (28 + n) p)
+  pairs-section : section (section-entries Pairs (rows-in p)) ≡ take (section-bytes (entry-bytes Pairs) v) (drop (pairs-count-at n) p)
   unfolding pairs-from
-  pairs-section =
-      let e : 28 + n + 4 ≡ 32 + n = omega arith in
-      section-bytes Pairs (28 + n) (3 * v) (pairs-count ∙ sym (g .sizes .pairs)) (omega (arith, long)) (pairs-are ∙ ap (λ (a : ℕ). take (3 * v) (drop a p)) (sym e))
+  pairs-section = section-taken Pairs (pairs-count-at n) (entry-bytes Pairs * v) (pairs-count ∙ sym (g .sizes .pairs)) (omega (arith, long)) pairs-are
 
-  correlations-section : section (entries Correlations (rows-in p)) ≡ take (4 + 4 * v) (drop (32 + n + 3 * v) p)
-  unfolding correlations-from pairs-from
+  correlations-section : section (section-entries Correlations (rows-in p)) ≡ take (section-bytes (entry-bytes Correlations) v) (drop (correlations-count-at n v) p)
+  unfolding correlations-from
   correlations-section =
-      let e : 32 + n + 3 * v + 4 ≡ 36 + n + 3 * v = omega arith in
-      let f : 28 + n + 4 + 3 * v ≡ 32 + n + 3 * v = omega arith in
-      section-bytes Correlations (32 + n + 3 * v) (4 * v)
-      (correlations-count (rows-in p) ∙ pairs-count ∙ sym (g .sizes .correlations) ∙ ap (number-at 4 p) f)
-      (omega (arith, long))
-      (correlations-are ∙ ap (λ (a : ℕ). take (4 * v) (drop a p)) (sym e))
+      section-taken Correlations (correlations-count-at n v) (entry-bytes Correlations * v) (correlations-count (rows-in p) ∙ pairs-count ∙ sym (g .sizes .correlations)) (omega (arith, long)) correlations-are
 
-  settings-section : section (setting-entries (sheet-settings p)) ≡ take 24 (drop 0 p)
-  unfolding section setting-entries joined sheet-settings
+  -- signed numbers that stand one after the other from `a` on
+  numbers-taken : (zs : List ℤ) (a : ℕ) → ((k : ℕ) → k < length zs → signed (getD zs k (pos 0)) ≡ take setting-bytes (drop (a + setting-bytes * k) p)) → concat (map signed zs) ≡ take (setting-bytes * length zs) (drop a p)
+  unfolding concat
+  numbers-taken [] a each = refl
+  numbers-taken (z ∷ zs) a each =
+      let none : a + setting-bytes * 0 ≡ a = omega arith in
+      let next : (k : ℕ) → a + setting-bytes * suc k ≡ a + setting-bytes + setting-bytes * k = λ k. omega arith in
+      let all : setting-bytes + setting-bytes * length zs ≡ setting-bytes * suc (length zs) = omega arith in
+      ap₂ (λ (x : List ℕ) (y : List ℕ). x ++ y)
+      (each 0 (omega arith) ∙ ap (λ (m : ℕ). take setting-bytes (drop m p)) none)
+      (numbers-taken zs (a + setting-bytes) (λ k l. each (suc k) (omega arith) ∙ ap (λ (m : ℕ). take setting-bytes (drop m p)) (next k)))
+      ∙ glue p a setting-bytes (setting-bytes * length zs)
+      ∙ ap (λ (m : ℕ). take m (drop a p)) all
+
+  -- each setting's bytes
+  setting-part : (k : ℕ) → k < length (setting-numbers (sheet-settings p)) → signed (getD (setting-numbers (sheet-settings p)) k (pos 0)) ≡ take setting-bytes (drop (setting-place k) p)
+  unfolding setting-numbers sheet-settings
+  setting-part zero l = unsigned-bytes-at p (setting-place 0) bytes (omega (arith, g .head .long))
+  setting-part (suc zero) l = unsigned-bytes-at p (setting-place 1) bytes (omega (arith, g .head .long))
+  setting-part (suc (suc zero)) l = unsigned-bytes-at p (setting-place 2) bytes (omega (arith, g .head .long))
+  setting-part (suc (suc (suc zero))) l = signed-bytes-at p (setting-place 3) bytes (omega (arith, g .head .long))
+  setting-part (suc (suc (suc (suc zero)))) l = signed-bytes-at p (setting-place 4) bytes (omega (arith, g .head .long))
+  setting-part (suc (suc (suc (suc (suc k))))) l = absurd (omega arith)
+
+  settings-section : section (setting-entries (sheet-settings p)) ≡ take frames-at (drop 0 p)
+  unfolding section setting-numbers
   settings-section =
-      let word : (a : ℕ) → a + 4 ≤ length p → low-bytes 4 (number-at 4 p a) ≡ take 4 (drop a p) = λ a l. bytes-at 4 p a bytes l in
-      let h = g .head .long in
-      let x0 : low-bytes 4 5 ≡ take 4 (drop 0 p) = ap (low-bytes 4) (sym (g .head .five)) ∙ word 0 (omega arith) in
-      let x5 = append-nil (signed (signed-at p 20)) ∙ signed-bytes-at p 20 bytes (omega arith) in
-      let y4 = ap₂ (λ (x : List ℕ) (y : List ℕ). x ++ y) (signed-bytes-at p 16 bytes (omega arith)) x5 ∙ glue p 16 4 4 in
-      let y3 = ap₂ (λ (x : List ℕ) (y : List ℕ). x ++ y) (word 12 (omega arith)) y4 ∙ glue p 12 4 8 in
-      let y2 = ap₂ (λ (x : List ℕ) (y : List ℕ). x ++ y) (word 8 (omega arith)) y3 ∙ glue p 8 4 12 in
-      let y1 = ap₂ (λ (x : List ℕ) (y : List ℕ). x ++ y) (word 4 (omega arith)) y2 ∙ glue p 4 4 16 in
-      ap₂ (λ (x : List ℕ) (y : List ℕ). x ++ y) x0 y1 ∙ glue p 0 4 20
+      let zs = setting-numbers (sheet-settings p) in
+      ap₂ (λ (x : List ℕ) (y : List ℕ). x ++ y)
+      (ap (low-bytes count-bytes) (sym (g .head .count)) ∙ bytes-at count-bytes p 0 bytes (omega (arith, g .head .long)))
+      (numbers-taken zs count-bytes setting-part)
+      ∙ glue p 0 count-bytes (setting-bytes * settings-count)
 
   -- ---- the page
 
   pub page-sheet : sheet (sheet-settings p) (rows-in p) ≡ p
   unfolding sheet
   page-sheet =
-      let b : 28 + n ≡ 0 + (24 + (4 + n)) = omega arith in
-      let c : 32 + n + 3 * v ≡ 0 + (24 + (4 + n) + (4 + 3 * v)) = omega arith in
-      let ab = ap₂ (λ (x : List ℕ) (y : List ℕ). x ++ y) settings-section verdicts-section ∙ glue p 0 24 (4 + n) in
-      let abc = ap₂ (λ (x : List ℕ) (y : List ℕ). x ++ y) ab (pairs-section ∙ ap (λ (a : ℕ). take (4 + 3 * v) (drop a p)) b) ∙ glue p 0 (24 + (4 + n)) (4 + 3 * v) in
-      ap₂ (λ (x : List ℕ) (y : List ℕ). x ++ y) abc (correlations-section ∙ ap (λ (a : ℕ). take (4 + 4 * v) (drop a p)) c)
-      ∙ glue p 0 (24 + (4 + n) + (4 + 3 * v)) (4 + 4 * v)
-      ∙ take-all (24 + (4 + n) + (4 + 3 * v) + (4 + 4 * v)) p (omega (arith, long))
+      let a = section-bytes (entry-bytes Verdicts) n in
+      let b = section-bytes (entry-bytes Pairs) v in
+      let c = section-bytes (entry-bytes Correlations) v in
+      let d : pairs-count-at n ≡ 0 + (frames-at + a) = omega arith in
+      let e : correlations-count-at n v ≡ 0 + (frames-at + a + b) = omega arith in
+      let ab = ap₂ (λ (x : List ℕ) (y : List ℕ). x ++ y) settings-section verdicts-section ∙ glue p 0 frames-at a in
+      let abc = ap₂ (λ (x : List ℕ) (y : List ℕ). x ++ y) ab (pairs-section ∙ ap (λ (m : ℕ). take b (drop m p)) d) ∙ glue p 0 (frames-at + a) b in
+      ap₂ (λ (x : List ℕ) (y : List ℕ). x ++ y) abc (correlations-section ∙ ap (λ (m : ℕ). take c (drop m p)) e)
+      ∙ glue p 0 (frames-at + a + b) c
+      ∙ take-all (frames-at + a + b + c) p (omega (arith, long))
 
   pub page-holds : Holds (sheet-settings p) (rows-in p)
   unfolding rows-in sheet-settings signed-at
@@ -259,8 +287,8 @@ module _ (p : List ℕ) (bytes : Bytes p) (fine : well-formed p ≡ true) where
       let at : (i : ℕ) → i < frames-in p → getD (rows-in p) i no-row ≡ row i = λ i l. getD-tabulate row (frames-in p) i no-row l in
       record {
         settings = g .head .settings;
-        thres1 = wrap-fits w32 (pos (number-at 4 p 16));
-        thres2 = wrap-fits w32 (pos (number-at 4 p 20));
+        thres1 = wrap-fits w32 (pos (number-at 4 p (setting-place 3)));
+        thres2 = wrap-fits w32 (pos (number-at 4 p (setting-place 4)));
         few = rw rows-length (g .head .few);
         rows = λ i l. let k : i < frames-in p = omega (arith, rows-length) in rw (at i k) (row-fine i k);
         correlations = λ i l. let k : i < frames-in p = omega (arith, rows-length) in rw (at i k) (correlation-fits i k);

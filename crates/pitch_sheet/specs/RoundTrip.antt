@@ -1,7 +1,7 @@
 -- The round trips and the sizes, as statements about what the two calls are equated with. Statements only; `RoundTripLaws` proves them.
 use mathlib.Core.Path.{_≡_}
 use mathlib.Core.List.{List, [], _∷_, _++_}
-use Prim.Native.Nat.{ℕ, _+_, _*_, _≤_, _<_}
+use Prim.Native.Nat.{ℕ, _*_, _≤_, _<_}
 use lib.IntN.{ℤ, pos}
 use lib.ListN.{length, getD, take, drop}
 use mir.Syntax.{w32}
@@ -11,13 +11,13 @@ use Rattle.pitch_table.specs.declared.Row.{Row}
 use Rattle.sheet_bytes.specs.Bytes.{Bytes}
 use Rattle.pitch_table.specs.Row.{voiced-row, unpitched-row}
 use Rattle.sheet_sections.specs.declared.Section.the-variants.{Pairs}
-use Rattle.sheet_sections.specs.Sheet.{entries, sheet, sheet-length}
+use Rattle.sheet_sections.specs.Sheet.{section-entries, sheet, sheet-length}
 use Rattle.sheet_page.specs.Page.{numbers-of}
 use Rattle.pitch_sheet.specs.declared.Wrote.the-variants.{Written}
 use Rattle.pitch_sheet.specs.declared.Got.the-variants.{Read, Refused as NotRead}
 use Rattle.pitch_sheet.specs.Calls.{whole-rows, wrote, write-call, got, read-call}
 use Rattle.pitch_sheet.specs.Holds.{Holds}
-use Rattle.pitch_table.specs.Row.{row-size}
+use Rattle.pitch_table.specs.Row.{row-size, most-frames}
 
 -- numbers of 32 bits, as a table has them
 abbrev pub Words : List ℤ → Type 0
@@ -46,9 +46,9 @@ pub record RoundTrip : Type 0 where
   pub no-sheet-nine : (p : List ℕ) (t : List ℤ) → Bytes p → (IsSheet p → ⊥) → read-call p t .answer ≡ NotRead 9
   -- two sheets with the same bytes are of the same settings and rows
   pub one-meaning : (s s′ : Settings) (rs rs′ : List Row) → Holds s rs → Holds s′ rs′ → sheet s rs ≡ sheet s′ rs′ → (s ≡ s′) × (rs ≡ rs′)
-  -- the sizes: four counts, 20 bytes of settings, a byte a frame, 3 and 4 bytes a voiced frame; document 01's three; and the longest
-  pub length-is : (s : Settings) (rs : List Row) → length (sheet s rs) ≡ 4 + 20 + (4 + length rs) + (4 + 3 * length (entries Pairs rs)) + (4 + 4 * length (entries Pairs rs))
+  -- the sizes: by the frames and the voiced frames; with no frame, with one unvoiced and with one voiced; and the longest
+  pub length-is : (s : Settings) (rs : List Row) → length (sheet s rs) ≡ sheet-length (length rs) (length (section-entries Pairs rs))
   pub no-frames : (s : Settings) → length (sheet s []) ≡ 36
   pub one-unvoiced : (s : Settings) → length (sheet s (unpitched-row (pos 1) ∷ [])) ≡ 37
   pub one-voiced : (s : Settings) (index contour correlation : ℤ) → length (sheet s (voiced-row s index contour correlation ∷ [])) ≡ 44
-  pub longest : (s : Settings) (rs : List Row) → length rs ≤ 4096 → length (sheet s rs) ≤ sheet-length 4096 4096
+  pub longest : (s : Settings) (rs : List Row) → length rs ≤ most-frames → length (sheet s rs) ≤ sheet-length most-frames most-frames

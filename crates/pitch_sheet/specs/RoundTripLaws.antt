@@ -17,14 +17,14 @@ use Rattle.lists.specs.FillLaws.{length-tabulate, getD-tabulate, tabulate-is as
 use Rattle.pitch_settings.specs.declared.Settings.{Settings}
 use Rattle.pitch_settings.specs.Settings.{settings-no}
 use Rattle.pitch_table.specs.declared.Row.{Row}
-use Rattle.pitch_table.specs.Row.{row-size, numbers, row-at}
+use Rattle.pitch_table.specs.Row.{row-size, most-frames, numbers, row-at}
 use Rattle.sheet_bytes.specs.Bytes.{Bytes}
 use Rattle.pitch_table.specs.Row.{voiced-row, unpitched-row}
 use Rattle.sheet_rows.specs.Rows.{row-holds}
 use Rattle.sheet_sections.specs.declared.Section.the-variants.{Pairs}
-use Rattle.sheet_sections.specs.Sheet.{listed, entries, sheet, sheet-length, rows-of}
-use Rattle.sheet_sections.specs.SheetLaws.{length-rows, length-sheet, entries-le}
-use Rattle.sheet_page.specs.Page.{sheet-settings, frames-in, well-formed, page-no, row-in, held, rows-in, numbers-of}
+use Rattle.sheet_sections.specs.Sheet.{has-entry, section-entries, sheet, sheet-length, rows-of}
+use Rattle.sheet_sections.specs.SheetLaws.{length-rows, length-sheet, section-entries-le}
+use Rattle.sheet_page.specs.Page.{sheet-settings, frames-in, well-formed, page-no, row-in, row-found, rows-in, numbers-of}
 use Rattle.sheet_page.specs.PageLaws.{numbers-append, numbers-length}
 use Rattle.pitch_sheet.specs.declared.Wrote.the-variants.{Written}
 use Rattle.pitch_sheet.specs.declared.Got.the-variants.{Read, Refused as NotRead}
@@ -44,7 +44,7 @@ module _ (t : List ℤ) where
   cell : (k a b : ℕ) → b ≡ suc a → a < length t → take (suc k) (drop a t) ≡ getD t a (pos 0) ∷ take k (drop b t)
   cell k a b e h = ap (take (suc k)) (drop-cons t a (pos 0) h) ∙ ap (λ (j : ℕ). getD t a (pos 0) ∷ take k (drop j t)) (sym e)
 
-  row-numbers : (i : ℕ) → i * row-size + 8 ≤ length t → take row-size (drop (i * row-size) t) ≡ numbers (row-at t i)
+  row-numbers : (i : ℕ) → i * row-size + row-size ≤ length t → take row-size (drop (i * row-size) t) ≡ numbers (row-at t i)
   unfolding row-at
   row-numbers i h =
       let a = i * row-size in
@@ -63,10 +63,10 @@ module _ (t : List ℤ) where
   unfolding rows-of tabulate numbers-of
   rows-numbers zero h = refl
   rows-numbers (suc i) h =
-      let e : i * row-size + 8 ≡ suc i * row-size = omega arith in
+      let e : i * row-size + row-size ≡ suc i * row-size = omega arith in
       numbers-append (rows-of t i) (row-at t i ∷ [])
       ∙ ap₂ (λ (x : List ℤ) (y : List ℤ). x ++ y) (rows-numbers i (omega arith)) (append-one (row-at t i) ∙ sym (row-numbers i (omega arith)))
-      ∙ sym (take-add (i * row-size) 8 t)
+      ∙ sym (take-add (i * row-size) row-size t)
       ∙ ap (λ (j : ℕ). take j t) e
     where
       append-one : (r : Row) → numbers r ++ [] ≡ numbers r
@@ -196,7 +196,7 @@ module _ (p : List ℕ) (t : List ℤ) (s : Settings) (n : ℕ) (after : List �
 
   rows-length : length (rows-in p) ≡ frames-in p
   unfolding rows-in
-  rows-length = length-tabulate (λ i. held (row-in p i)) (frames-in p)
+  rows-length = length-tabulate (λ i. row-found (row-in p i)) (frames-in p)
 
   -- the rows of the table are those read
   rows-read : rows-of after n ≡ rows-in p
@@ -218,7 +218,7 @@ module _ (p : List ℕ) (t : List ℤ) (s : Settings) (n : ℕ) (after : List �
   read-writes page l =
       let h = written.page-holds p bytes (page-sheet p (found .fine)) in
       let a : settings-no s ≡ 0 = ap settings-no (sym settings-are) ∙ h .settings in
-      let b : n ≤ 4096 = omega (arith, h .few, rows-length, frames-are) in
+      let b : n ≤ most-frames = omega (arith, h .few, rows-length, frames-are) in
       let r : rows-hold s after n ≡ true =
       hold-all s after n (λ i k. (λ u. row-holds (sym settings-are u) (row-read i k u)) ∙ h .rows i (omega (arith, rows-length, frames-are))) in
       let e = bytes-back in
@@ -259,24 +259,22 @@ one-meaning s s′ rs rs′ h h′ e =
 
 -- ---- sizes
 
-longest : (s : Settings) (rs : List Row) → length rs ≤ 4096 → length (sheet s rs) ≤ sheet-length 4096 4096
-unfolding sheet-length
-longest s rs h = omega (arith, length-sheet s rs, entries-le Pairs rs)
+longest : (s : Settings) (rs : List Row) → length rs ≤ most-frames → length (sheet s rs) ≤ sheet-length most-frames most-frames
+longest s rs h = omega (arith, length-sheet s rs, section-entries-le Pairs rs)
 
-length-is : (s : Settings) (rs : List Row) → length (sheet s rs) ≡ 4 + 20 + (4 + length rs) + (4 + 3 * length (entries Pairs rs)) + (4 + 4 * length (entries Pairs rs))
-unfolding sheet-length
+length-is : (s : Settings) (rs : List Row) → length (sheet s rs) ≡ sheet-length (length rs) (length (section-entries Pairs rs))
 length-is s rs = length-sheet s rs
 
 no-frames : (s : Settings) → length (sheet s []) ≡ 36
-unfolding sheet-length entries
+unfolding section-entries
 no-frames s = length-sheet s []
 
-one-unvoiced : (s : Settings) → length (sheet s (unpitched-row (pos 1) ∷ [])) ≡ 37
-unfolding sheet-length entries listed unpitched-row eqZ
-one-unvoiced s = length-sheet s (unpitched-row (pos 1) ∷ [])
+one-unvoiced : (s : Settings) → length (sheet s (quiet-row (pos 1) ∷ [])) ≡ 37
+unfolding section-entries has-entry quiet-row eqZ
+one-unvoiced s = length-sheet s (quiet-row (pos 1) ∷ [])
 
 one-voiced : (s : Settings) (index contour correlation : ℤ) → length (sheet s (voiced-row s index contour correlation ∷ [])) ≡ 44
-unfolding sheet-length entries listed voiced-row eqZ
+unfolding section-entries has-entry voiced-row eqZ
 one-voiced s index contour correlation = length-sheet s (voiced-row s index contour correlation ∷ [])
 
 pub round-trip : RoundTrip

@@ -6,18 +6,20 @@ ghost use lib.IntN.{pos};
 ghost use lib.ListN.{length};
 ghost use Rattle.answers.specs.Answer.{answer-numbers};
 ghost use Rattle.pitch_settings.specs.Settings.{settings-no};
-ghost use Rattle.sheet_sections.specs.Sheet.{sheet, rows-of, sheet-length};
+ghost use Rattle.sheet_sections.specs.Sheet.{sheet-length, setting-numbers, rows-of, sheet};
 ghost use Rattle.sheet_page.specs.Page.{sheet-settings, frames-in};
-ghost use Rattle.pitch_sheet.specs.Calls.{rows-hold, write-no, wrote, write-call, write-numbers, read-no, got, read-call, settings-numbers, read-numbers};
-ghost use Rattle.pitch_table.specs.Row.{row-size};
+ghost use Rattle.pitch_sheet.specs.Calls.{rows-hold, write-no, wrote, write-call, write-numbers, read-no, got, read-call, read-numbers};
+ghost use Rattle.pitch_table.specs.Row.{row-size, most-frames};
 use pitch_settings::Settings;
 use pitch_settings::settings_no;
+use pitch_table::MOST_FRAMES;
 use pitch_table::ROW_SIZE;
 use pitch_table::get_row;
 use sheet_page::head_of;
 use sheet_page::page_no;
 use sheet_page::put_rows;
 use sheet_rows::row_holds;
+use sheet_sections::LONGEST_SHEET;
 use sheet_sections::put_sheet;
 use sheet_sections::sheet_length;
 use sheet_sections::voiced_rows;
@@ -36,9 +38,9 @@ pub enum Got {
 
 // The bytes of the longest sheet: a page of that length is never too short.
 pub fn longest_sheet() -> usize
-    ensures { λ r. ⌜ r ≡ sheet-length 4096 4096 ⌝ }
+    ensures { λ r. ⌜ r ≡ sheet-length most-frames most-frames ⌝ }
 {
-    32804
+    LONGEST_SHEET
 }
 
 // Whether a sheet can hold each of the first rows.
@@ -63,7 +65,7 @@ fn write_no(s: Settings, frames: usize, table: &[i32], room: usize) -> usize
     if no != 0 {
         return no;
     }
-    if frames > 4096 {
+    if frames > MOST_FRAMES {
         return 6;
     }
     let whole = table.len() / ROW_SIZE;
@@ -99,7 +101,7 @@ pub fn write_sheet(s: Settings, frames: usize, table: &[i32], page: &mut [u8]) -
 // Reads the page's sheet, which must be the whole page, into the first rows of the table.
 pub fn read_sheet(page: &[u8], table: &mut [i32]) -> Got
     ensures { λ r. ⌜ got r (now (table .exit)) ≡ read-call (now (page .entry)) (now (table .entry)) ⌝ }
-    ensures { λ r. ⌜ read-numbers r ≡ answer-numbers (read-no (now (page .entry)) (now (table .entry))) (settings-numbers (sheet-settings (now (page .entry))) ++ (pos (frames-in (now (page .entry))) ∷ [])) ⌝ }
+    ensures { λ r. ⌜ read-numbers r ≡ answer-numbers (read-no (now (page .entry)) (now (table .entry))) (setting-numbers (sheet-settings (now (page .entry))) ++ (pos (frames-in (now (page .entry))) ∷ [])) ⌝ }
 {
     let no = page_no(page);
     if no != 0 {

@@ -14,6 +14,10 @@ use Rattle.pitch_table.specs.declared.Row.{Row}
 abbrev pub row-size : ℕ
 row-size = 8
 
+-- how many frames a track, and so a sheet, has at most
+abbrev pub most-frames : ℕ
+most-frames = 4096
+
 abbrev pub numbers : Row → List ℤ
 numbers r = r .verdict ∷ r .index ∷ r .contour ∷ r .correlation ∷ r .lag0 ∷ r .lag1 ∷ r .lag2 ∷ r .lag3 ∷ []
 

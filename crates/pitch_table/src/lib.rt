@@ -13,6 +13,9 @@ use silk_tables::rebuild::lag_of;
 // How many numbers a row has.
 pub const ROW_SIZE: usize = 8;
 
+// How many frames a track, and so a sheet, has at most.
+pub const MOST_FRAMES: usize = 4096;
+
 // A row of a table: what is said of one frame.
 pub struct Row {
     // 0 voiced, 1 unvoiced, 2 zero divisor

@@ -59,6 +59,11 @@ pub signed-word : (z : ℤ) → SFits w32 z → wrap w32 (pos (word z)) ≡ z
 unfolding word
 signed-word z f = wrap-is w32 (pos (modZ z 4294967296)) z f (cong-sym (modZ-cong z 4294967296 (omega arith)))
 
+-- of a number without a sign
+pub word-nat : (n : ℕ) → n < 4294967296 → word (pos n) ≡ n
+unfolding word modZ
+word-nat n h = omega arith
+
 -- as the code finds them
 pub word-pos : (z : ℤ) → SFits w32 z → pos 0 ≤ℤ z → z ≡ pos (word z)
 unfolding word modZ
@@ -104,6 +109,10 @@ module _ (k : ℕ) (p : List ℕ) (at : ℕ) (h : Bytes p) (l : at + k ≤ lengt
 pub signed-bytes-at : (p : List ℕ) (at : ℕ) → Bytes p → at + 4 ≤ length p → signed (signed-at p at) ≡ take 4 (drop at p)
 unfolding signed signed-at
 signed-bytes-at p at h l = ap (low-bytes 4) (word-signed (number-at 4 p at) (number-at-lt 4 p at h l)) ∙ bytes-at 4 p at h l
+
+pub unsigned-bytes-at : (p : List ℕ) (at : ℕ) → Bytes p → at + 4 ≤ length p → signed (pos (number-at 4 p at)) ≡ take 4 (drop at p)
+unfolding signed
+unsigned-bytes-at p at h l = ap (low-bytes 4) (word-nat (number-at 4 p at) (number-at-lt 4 p at h l)) ∙ bytes-at 4 p at h l
 
 -- the number whose bytes stand there
 module _ (xs ys : List ℕ) (at : ℕ) (e : length xs ≡ at) where

@@ -1,4 +1,4 @@
--- What a page holds, by place (document 01, "Sheet"), and when it is a sheet: read it beside the bytes of a sheet, `Sheet` of sheet_sections. Definitions only; the laws are in
+-- What a page holds, by place (docs/SCOPE.md, Sheet), and when it is a sheet: read it beside the bytes of a sheet, `Sheet` of sheet_sections. Definitions only; the laws are in
 -- `PageLaws`.
 use mathlib.Core.Bool.{Bool, true, false, _&&_, cond}
 use mathlib.Core.List.{List, [], _∷_, _++_}
@@ -11,31 +11,31 @@ use Rattle.lists.specs.Fill.{tabulate}
 use Rattle.pitch_settings.specs.declared.Settings.{Settings}
 use Rattle.pitch_settings.specs.Settings.{settings-no}
 use Rattle.pitch_table.specs.declared.Row.{Row}
-use Rattle.pitch_table.specs.Row.{numbers}
+use Rattle.pitch_table.specs.Row.{most-frames, numbers}
 use Rattle.sheet_bytes.specs.Bytes.{number-at, signed-at}
 use Rattle.sheet_rows.specs.declared.RowRead.{RowRead}
 use Rattle.sheet_rows.specs.declared.RowRead.the-variants.{Held, Bad}
-use Rattle.pitch_table.specs.Row.{unpitched-row}
-use Rattle.sheet_rows.specs.Rows.{row-of}
-use Rattle.sheet_sections.specs.Sheet.{sheet-length}
+use Rattle.sheet_rows.specs.Rows.{quiet-row, row-of}
+use Rattle.sheet_sections.specs.declared.Section.the-variants.{Pairs, Correlations}
+use Rattle.sheet_sections.specs.Sheet.{settings-count, count-bytes, setting-bytes, index-bytes, entry-bytes, setting-place, frames-at, verdicts-at, pairs-count-at, pairs-at, correlations-count-at, correlations-at, sheet-length}
 use Rattle.sheet_page.specs.declared.Head.{Head}
 
 -- the settings after their count, then the frames' count, then a byte a frame, its verdict
 unfoldable pub sheet-settings : List ℕ → Settings
 sheet-settings p =
     record {
-      rate = number-at 4 p 4;
-      nb = number-at 4 p 8;
-      complexity = number-at 4 p 12;
-      thres1 = signed-at p 16;
-      thres2 = signed-at p 20;
+      rate = number-at setting-bytes p (setting-place 0);
+      nb = number-at setting-bytes p (setting-place 1);
+      complexity = number-at setting-bytes p (setting-place 2);
+      thres1 = signed-at p (setting-place 3);
+      thres2 = signed-at p (setting-place 4);
     }
 
 unfoldable pub frames-in : List ℕ → ℕ
-frames-in p = number-at 4 p 24
+frames-in p = number-at count-bytes p frames-at
 
 unfoldable pub verdict-in : List ℕ → ℕ → ℕ
-verdict-in p i = getD p (28 + i) 0
+verdict-in p i = getD p (verdicts-at + i) 0
 
 -- how many of the first i verdicts are voiced, and of all
 unfoldable pub voiced-before : List ℕ → ℕ → ℕ
@@ -50,22 +50,22 @@ head-in p = record { settings = sheet-settings p; frames = frames-in p; voiced =
 
 -- where the pairs' count stands, and after it the pair of frame i where it is voiced; where the correlations' count stands, and after it the correlation of frame i
 unfoldable pub pairs-from : List ℕ → ℕ
-pairs-from p = 28 + frames-in p
+pairs-from p = pairs-count-at (frames-in p)
 
 unfoldable pub pair-place : List ℕ → ℕ → ℕ
-pair-place p i = pairs-from p + 4 + 3 * voiced-before p i
+pair-place p i = pairs-at (frames-in p) + entry-bytes Pairs * voiced-before p i
 
 unfoldable pub correlations-from : List ℕ → ℕ
-correlations-from p = pairs-from p + 4 + 3 * voiced-in p
+correlations-from p = correlations-count-at (frames-in p) (voiced-in p)
 
 unfoldable pub correlation-place : List ℕ → ℕ → ℕ
-correlation-place p i = correlations-from p + 4 + 4 * voiced-before p i
+correlation-place p i = correlations-at (frames-in p) (voiced-in p) + entry-bytes Correlations * voiced-before p i
 
 -- frame i's row: what its verdict, and where it is voiced its pair and its correlation, stand for
 unfoldable pub row-in : List ℕ → ℕ → RowRead
 row-in p i =
     cond (eqb (verdict-in p i) 0)
-    (row-of (sheet-settings p) (pos 0) (pos (number-at 2 p (pair-place p i))) (pos (getD p (pair-place p i + 2) 0)) (signed-at p (correlation-place p i)))
+    (row-of (sheet-settings p) (pos 0) (pos (number-at index-bytes p (pair-place p i))) (pos (getD p (pair-place p i + index-bytes) 0)) (signed-at p (correlation-place p i)))
     (row-of (sheet-settings p) (pos (verdict-in p i)) (pos 0) (pos 0) (pos 0))
 
 unfoldable pub readable : RowRead → Bool
@@ -74,15 +74,15 @@ readable Bad = false
 
 -- ---- when it is a sheet
 
--- the settings' section and the frames' count, 28 bytes, are there; five settings that are accepted, and at most 4,096 frames
+-- the settings' section and the frames' count are there; as many settings as there are, accepted, and no more frames than a sheet may have
 unfoldable pub head-good : List ℕ → Bool
-head-good p = leb 28 (length p) && (eqb (number-at 4 p 0) 5 && (eqb (settings-no (sheet-settings p)) 0 && leb (frames-in p) 4096))
+head-good p = leb verdicts-at (length p) && (eqb (number-at count-bytes p 0) settings-count && (eqb (settings-no (sheet-settings p)) 0 && leb (frames-in p) most-frames))
 
 -- no byte is missing and none follows; the pairs and the correlations number the voiced verdicts
 unfoldable pub sizes-good : List ℕ → Bool
 sizes-good p =
     eqb (length p) (sheet-length (frames-in p) (voiced-in p))
-    && (eqb (number-at 4 p (pairs-from p)) (voiced-in p) && eqb (number-at 4 p (correlations-from p)) (voiced-in p))
+    && (eqb (number-at count-bytes p (pairs-from p)) (voiced-in p) && eqb (number-at count-bytes p (correlations-from p)) (voiced-in p))
 
 -- every row can be read
 unfoldable pub rows-good : List ℕ → Bool
@@ -98,12 +98,12 @@ page-no p = cond (well-formed p) 0 9
 -- ---- its rows
 
 -- the row that was read (the second clause is for totality: no sheet has such a row)
-unfoldable pub held : RowRead → Row
-held (Held r) = r
-held Bad = unpitched-row (pos 1)
+unfoldable pub row-found : RowRead → Row
+row-found (Held r) = r
+row-found Bad = quiet-row (pos 1)
 
 unfoldable pub rows-in : List ℕ → List Row
-rows-in p = tabulate (λ i. held (row-in p i)) (frames-in p)
+rows-in p = tabulate (λ i. row-found (row-in p i)) (frames-in p)
 
 -- the numbers of rows, row after row, as a table has them
 unfoldable pub numbers-of : List Row → List ℤ

@@ -19,66 +19,67 @@ use Rattle.lists.specs.FillLaws.{length-tabulate}
 use Rattle.zint.specs.BoolLaws.{and-left, and-right}
 use Rattle.pitch_settings.specs.Settings.{settings-no}
 use Rattle.pitch_table.specs.declared.Row.{Row}
-use Rattle.pitch_table.specs.Row.{row-size, numbers}
+use Rattle.pitch_table.specs.Row.{row-size, most-frames, numbers}
 use Rattle.sheet_bytes.specs.Bytes.{number-at, signed-at}
 use Rattle.sheet_rows.specs.declared.RowRead.{RowRead}
 use Rattle.sheet_rows.specs.declared.RowRead.the-variants.{Held, Bad}
 use Rattle.sheet_rows.specs.Rows.{row-of}
 use Rattle.sheet_rows.specs.RowsLaws.{stands, stands-verdict}
-use Rattle.sheet_sections.specs.Sheet.{sheet-length}
+use Rattle.sheet_sections.specs.declared.Section.the-variants.{Pairs, Correlations}
+use Rattle.sheet_sections.specs.Sheet.{settings-count, count-bytes, index-bytes, entry-bytes, verdicts-at, pairs-at, correlations-at, sheet-length}
 use Rattle.lists.specs.PutLaws.{sets-append}
-use Rattle.sheet_page.specs.Page.{sheet-settings, frames-in, verdict-in, voiced-before, voiced-in, pairs-from, pair-place, correlations-from, correlation-place, row-in, readable, head-good, sizes-good, rows-good, well-formed, held, numbers-of}
+use Rattle.sheet_page.specs.Page.{sheet-settings, frames-in, verdict-in, voiced-before, voiced-in, pairs-from, pair-place, correlations-from, correlation-place, row-in, readable, head-good, sizes-good, rows-good, well-formed, row-found, numbers-of}
 
 module _ (p : List ℕ) where
   -- ---- the tests
 
   pub record GoodHead : Type 0 where
-    pub long : 28 ≤ length p
-    pub five : number-at 4 p 0 ≡ 5
+    pub long : verdicts-at ≤ length p
+    pub count : number-at count-bytes p 0 ≡ settings-count
     pub settings : settings-no (sheet-settings p) ≡ 0
-    pub few : frames-in p ≤ 4096
+    pub few : frames-in p ≤ most-frames
 
   pub head-means : head-good p ≡ true → GoodHead
   unfolding head-good
   head-means h =
-      let c = eqb (settings-no (sheet-settings p)) 0 && leb (frames-in p) 4096 in
-      let b = eqb (number-at 4 p 0) 5 && c in
-      let k = and-right (leb 28 (length p)) b h in
-      let l = and-right (eqb (number-at 4 p 0) 5) c k in
+      let c = eqb (settings-no (sheet-settings p)) 0 && leb (frames-in p) most-frames in
+      let b = eqb (number-at count-bytes p 0) settings-count && c in
+      let k = and-right (leb verdicts-at (length p)) b h in
+      let l = and-right (eqb (number-at count-bytes p 0) settings-count) c k in
       record {
-        long = leb-true 28 (length p) (and-left (leb 28 (length p)) b h);
-        five = eqb-true (number-at 4 p 0) 5 (and-left (eqb (number-at 4 p 0) 5) c k);
-        settings = eqb-true (settings-no (sheet-settings p)) 0 (and-left (eqb (settings-no (sheet-settings p)) 0) (leb (frames-in p) 4096) l);
-        few = leb-true (frames-in p) 4096 (and-right (eqb (settings-no (sheet-settings p)) 0) (leb (frames-in p) 4096) l);
+        long = leb-true verdicts-at (length p) (and-left (leb verdicts-at (length p)) b h);
+        count = eqb-true (number-at count-bytes p 0) settings-count (and-left (eqb (number-at count-bytes p 0) settings-count) c k);
+        settings = eqb-true (settings-no (sheet-settings p)) 0 (and-left (eqb (settings-no (sheet-settings p)) 0) (leb (frames-in p) most-frames) l);
+        few = leb-true (frames-in p) most-frames (and-right (eqb (settings-no (sheet-settings p)) 0) (leb (frames-in p) most-frames) l);
       }
 
   pub head-yes : GoodHead → head-good p ≡ true
   unfolding head-good
-  head-yes g = rw (le-leb 28 (length p) (g .long), eq-eqb (number-at 4 p 0) 5 (g .five), eq-eqb (settings-no (sheet-settings p)) 0 (g .settings)) (le-leb (frames-in p) 4096 (g .few))
+  head-yes g = rw (le-leb verdicts-at (length p) (g .long), eq-eqb (number-at count-bytes p 0) settings-count (g .count), eq-eqb (settings-no (sheet-settings p)) 0 (g .settings)) (le-leb (frames-in p) most-frames (g .few))
 
   pub record GoodSizes : Type 0 where
     pub whole : length p ≡ sheet-length (frames-in p) (voiced-in p)
-    pub pairs : number-at 4 p (pairs-from p) ≡ voiced-in p
-    pub correlations : number-at 4 p (correlations-from p) ≡ voiced-in p
+    pub pairs : number-at count-bytes p (pairs-from p) ≡ voiced-in p
+    pub correlations : number-at count-bytes p (correlations-from p) ≡ voiced-in p
 
   pub sizes-means : sizes-good p ≡ true → GoodSizes
   unfolding sizes-good
   sizes-means h =
       let a = eqb (length p) (sheet-length (frames-in p) (voiced-in p)) in
-      let b = eqb (number-at 4 p (pairs-from p)) (voiced-in p) in
-      let c = eqb (number-at 4 p (correlations-from p)) (voiced-in p) in
+      let b = eqb (number-at count-bytes p (pairs-from p)) (voiced-in p) in
+      let c = eqb (number-at count-bytes p (correlations-from p)) (voiced-in p) in
       let k = and-right a (b && c) h in
       record {
         whole = eqb-true (length p) (sheet-length (frames-in p) (voiced-in p)) (and-left a (b && c) h);
-        pairs = eqb-true (number-at 4 p (pairs-from p)) (voiced-in p) (and-left b c k);
-        correlations = eqb-true (number-at 4 p (correlations-from p)) (voiced-in p) (and-right b c k);
+        pairs = eqb-true (number-at count-bytes p (pairs-from p)) (voiced-in p) (and-left b c k);
+        correlations = eqb-true (number-at count-bytes p (correlations-from p)) (voiced-in p) (and-right b c k);
       }
 
   pub sizes-yes : GoodSizes → sizes-good p ≡ true
   unfolding sizes-good
   sizes-yes g =
-      rw (eq-eqb (length p) (sheet-length (frames-in p) (voiced-in p)) (g .whole), eq-eqb (number-at 4 p (pairs-from p)) (voiced-in p) (g .pairs))
-      (eq-eqb (number-at 4 p (correlations-from p)) (voiced-in p) (g .correlations))
+      rw (eq-eqb (length p) (sheet-length (frames-in p) (voiced-in p)) (g .whole), eq-eqb (number-at count-bytes p (pairs-from p)) (voiced-in p) (g .pairs))
+      (eq-eqb (number-at count-bytes p (correlations-from p)) (voiced-in p) (g .correlations))
 
   -- ---- voiced verdicts
 
@@ -124,13 +125,13 @@ module _ (p : List ℕ) where
   -- ---- the places of a voiced frame lie within the page
 
   pub record Places (i : ℕ) : Type 0 where
-    pub pair-is : pair-place p i ≡ 32 + frames-in p + 3 * voiced-before p i
-    pub pair-within : pair-place p i + 3 ≤ length p
-    pub correlation-is : correlation-place p i ≡ 36 + frames-in p + 3 * voiced-in p + 4 * voiced-before p i
-    pub correlation-within : correlation-place p i + 4 ≤ length p
+    pub pair-is : pair-place p i ≡ pairs-at (frames-in p) + entry-bytes Pairs * voiced-before p i
+    pub pair-within : pair-place p i + entry-bytes Pairs ≤ length p
+    pub correlation-is : correlation-place p i ≡ correlations-at (frames-in p) (voiced-in p) + entry-bytes Correlations * voiced-before p i
+    pub correlation-within : correlation-place p i + entry-bytes Correlations ≤ length p
 
   pub places : GoodSizes → (i : ℕ) → i < frames-in p → verdict-in p i ≡ 0 → Places i
-  unfolding voiced-in pairs-from pair-place correlations-from correlation-place sheet-length
+  unfolding voiced-in pairs-from pair-place correlations-from correlation-place
   places g i h e =
       let r = voiced-room i (frames-in p) h e in
       let w = g .whole in
@@ -141,18 +142,16 @@ module _ (p : List ℕ) where
         correlation-within = omega arith;
       }
 
-  pub small : GoodHead → GoodSizes → length p ≤ 36864
-  unfolding sheet-length
+  pub small : GoodHead → GoodSizes → length p ≤ sheet-length most-frames most-frames
   small g z = omega (arith, g .few, z .whole, voiced-in-le)
 
-  pub verdict-within : GoodSizes → (i : ℕ) → i < frames-in p → 28 + i < length p
-  unfolding sheet-length
+  pub verdict-within : GoodSizes → (i : ℕ) → i < frames-in p → verdicts-at + i < length p
   verdict-within z i h = omega (arith, z .whole)
 
   -- ---- rows
 
   pub row-voiced : (i : ℕ) → verdict-in p i ≡ 0
-      → row-in p i ≡ row-of (sheet-settings p) (pos 0) (pos (number-at 2 p (pair-place p i))) (pos (getD p (pair-place p i + 2) 0)) (signed-at p (correlation-place p i))
+      → row-in p i ≡ row-of (sheet-settings p) (pos 0) (pos (number-at index-bytes p (pair-place p i))) (pos (getD p (pair-place p i + index-bytes) 0)) (signed-at p (correlation-place p i))
   unfolding row-in
   row-voiced i e = rw (eq-eqb (verdict-in p i) 0 e)
 
@@ -169,19 +168,19 @@ module _ (p : List ℕ) where
       by : (t : Bool) → eqb (verdict-in p i) 0 ≡ t → r .verdict ≡ pos (verdict-in p i)
       by true e =
           let z : verdict-in p i ≡ 0 = eqb-true (verdict-in p i) 0 e in
-          from (pos 0) (pos (number-at 2 p (pair-place p i))) (pos (getD p (pair-place p i + 2) 0)) (signed-at p (correlation-place p i)) (sym (row-voiced i z) ∙ h) ∙ ap pos (sym z)
+          from (pos 0) (pos (number-at index-bytes p (pair-place p i))) (pos (getD p (pair-place p i + index-bytes) 0)) (signed-at p (correlation-place p i)) (sym (row-voiced i z) ∙ h) ∙ ap pos (sym z)
       by false e = from (pos (verdict-in p i)) (pos 0) (pos 0) (pos 0) (sym (row-quiet i (eqb-false (verdict-in p i) 0 e)) ∙ h)
 
-  -- one more verdict, by the row that was read
+  -- the voiced verdicts counted so far, and the row that was read: one more where it is voiced
   module _ (i : ℕ) (r : Row) (h : row-in p i ≡ Held r) where
     bits : ofZ w32 (r .verdict) ≡ verdict-in p i
     bits = ap (ofZ w32) (row-verdict i r h)
 
-    pub seen-yes : ofZ w32 (r .verdict) ≡ 0 → voiced-before p (i + 1) ≡ voiced-before p i + 1
-    seen-yes e = voiced-yes i (sym bits ∙ e)
+    pub counted-voiced : {before after : ℕ} → before ≡ voiced-before p i → after ≡ before + 1 → ofZ w32 (r .verdict) ≡ 0 → after ≡ voiced-before p (i + 1)
+    counted-voiced counted n e = n ∙ ap (λ (m : ℕ). m + 1) counted ∙ sym (voiced-yes i (sym bits ∙ e))
 
-    pub seen-no : (ofZ w32 (r .verdict) ≡ 0 → ⊥) → voiced-before p (i + 1) ≡ voiced-before p i
-    seen-no g = voiced-no i (λ e. g (bits ∙ e))
+    pub counted-quiet : {before after : ℕ} → before ≡ voiced-before p i → after ≡ before → (ofZ w32 (r .verdict) ≡ 0 → ⊥) → after ≡ voiced-before p (i + 1)
+    counted-quiet counted n g = n ∙ counted ∙ sym (voiced-no i (λ e. g (bits ∙ e)))
 
   pub rows-yes : ((i : ℕ) → i < frames-in p → readable (row-in p i) ≡ true) → rows-good p ≡ true
   unfolding rows-good
@@ -191,11 +190,11 @@ module _ (p : List ℕ) where
   unfolding rows-good readable
   rows-no i h e = every-false (frames-in p) (λ i. readable (row-in p i)) i h (ap readable e)
 
-  pub rows-means : rows-good p ≡ true → (i : ℕ) → i < frames-in p → row-in p i ≡ Held (held (row-in p i))
-  unfolding held
+  pub rows-means : rows-good p ≡ true → (i : ℕ) → i < frames-in p → row-in p i ≡ Held (row-found (row-in p i))
+  unfolding row-found
   rows-means h i l = by (row-in p i) refl
     where
-      by : (q : RowRead) → row-in p i ≡ q → q ≡ Held (held q)
+      by : (q : RowRead) → row-in p i ≡ q → q ≡ Held (row-found q)
       by (Held r) e = refl
       by Bad e = absurd (false≢true (sym (rows-no i l e) ∙ h))
 
@@ -204,7 +203,7 @@ module _ (p : List ℕ) where
   pub record Good : Type 0 where
     pub head : GoodHead
     pub sizes : GoodSizes
-    pub rows : (i : ℕ) → i < frames-in p → row-in p i ≡ Held (held (row-in p i))
+    pub rows : (i : ℕ) → i < frames-in p → row-in p i ≡ Held (row-found (row-in p i))
 
   pub good : well-formed p ≡ true → Good
   unfolding well-formed
@@ -226,7 +225,7 @@ module _ (p : List ℕ) where
 
   -- the first i rows
   abbrev pub first-rows : ℕ → List Row
-  first-rows i = tabulate (λ k. held (row-in p k)) i
+  first-rows i = tabulate (λ k. row-found (row-in p k)) i
 
 -- ---- the numbers of rows
 
@@ -246,12 +245,12 @@ module _ (p : List ℕ) (t : List ℤ) where
   put-none = refl
 
   pub put-next : (i : ℕ) {l : List ℤ} {r : Row} → l ≡ sets t 0 (numbers-of (first-rows p i)) → row-in p i ≡ Held r → sets l (i * row-size) (numbers r) ≡ sets t 0 (numbers-of (first-rows p (i + 1)))
-  unfolding tabulate numbers-of held
+  unfolding tabulate numbers-of row-found
   put-next i {l} {r} e h =
-      let q : r ≡ held (row-in p i) = sym (ap held h) in
-      let n : i * row-size ≡ 0 + length (numbers-of (first-rows p i)) = omega (arith, numbers-length (first-rows p i), length-tabulate (λ k. held (row-in p k)) i) in
+      let q : r ≡ row-found (row-in p i) = sym (ap row-found h) in
+      let n : i * row-size ≡ 0 + length (numbers-of (first-rows p i)) = omega (arith, numbers-length (first-rows p i), length-tabulate (λ k. row-found (row-in p k)) i) in
       let m : numbers-of (first-rows p i) ++ numbers r ≡ numbers-of (first-rows p (i + 1)) =
       ap (λ (x : Row). numbers-of (first-rows p i) ++ numbers x) q
-      ∙ sym (numbers-append (first-rows p i) (held (row-in p i) ∷ []))
+      ∙ sym (numbers-append (first-rows p i) (row-found (row-in p i) ∷ []))
       ∙ ap (λ (j : ℕ). numbers-of (first-rows p j)) (sym (add-one i)) in
       ap (λ (s : List ℤ). sets s (i * row-size) (numbers r)) e ∙ sets-append t (numbers-of (first-rows p i)) (numbers r) 0 (i * row-size) n ∙ ap (sets t 0) m

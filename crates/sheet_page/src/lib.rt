@@ -6,14 +6,30 @@ ghost use lib.ListN.{length};
 ghost use lib.Seq.{sets};
 ghost use Rattle.sheet_page.specs.Page.{sheet-settings, frames-in, voiced-before, head-in, row-in, head-good, sizes-good, rows-good, well-formed, page-no, rows-in, numbers-of};
 ghost use Rattle.pitch_table.specs.Row.{row-size};
+ghost use Rattle.sheet_sections.specs.Sheet.{verdicts-at};
 use pitch_settings::Settings;
 use pitch_settings::settings_no;
+use pitch_table::MOST_FRAMES;
 use pitch_table::put_row;
 use sheet_bytes::i32_at;
 use sheet_bytes::u16_at;
 use sheet_bytes::u32_at;
 use sheet_rows::RowRead;
 use sheet_rows::row_of;
+use sheet_sections::COMPLEXITY_AT;
+use sheet_sections::CORRELATION_BYTES;
+use sheet_sections::CORRELATIONS_AT;
+use sheet_sections::FRAMES_AT;
+use sheet_sections::INDEX_BYTES;
+use sheet_sections::NB_AT;
+use sheet_sections::PAIR_BYTES;
+use sheet_sections::PAIRS_AT;
+use sheet_sections::RATE_AT;
+use sheet_sections::SETTINGS_COUNT;
+use sheet_sections::THRES1_AT;
+use sheet_sections::THRES2_AT;
+use sheet_sections::VERDICTS_AT;
+use sheet_sections::sheet_length;
 
 // The settings of a sheet, how many frames it has, and how many of them are voiced.
 pub struct Head {
@@ -22,44 +38,45 @@ pub struct Head {
     pub voiced: usize,
 }
 
+// The settings of a page that has them.
 fn settings_at(page: &[u8]) -> Settings
-    requires { ⌜ 28 ≤ length (now page) ⌝ }
+    requires { ⌜ verdicts-at ≤ length (now page) ⌝ }
     ensures { λ r. ⌜ r ≡ sheet-settings (now (page .entry)) ⌝ }
 {
     Settings {
-        rate: u32_at(page, 4) as usize,
-        nb: u32_at(page, 8) as usize,
-        complexity: u32_at(page, 12) as usize,
-        thres1: i32_at(page, 16),
-        thres2: i32_at(page, 20),
+        rate: u32_at(page, RATE_AT) as usize,
+        nb: u32_at(page, NB_AT) as usize,
+        complexity: u32_at(page, COMPLEXITY_AT) as usize,
+        thres1: i32_at(page, THRES1_AT),
+        thres2: i32_at(page, THRES2_AT),
     }
 }
 
-// Five settings that are accepted, and a frame count that a sheet may have.
+// As many settings as a sheet has, accepted, and a frame count that a sheet may have.
 fn head_good(page: &[u8]) -> bool
     ensures { λ r. ⌜ r ≡ head-good (now (page .entry)) ⌝ }
 {
-    if page.len() < 28 {
+    if page.len() < VERDICTS_AT {
         return false;
     }
-    if u32_at(page, 0) != 5 {
+    if u32_at(page, 0) as usize != SETTINGS_COUNT {
         return false;
     }
     let s = settings_at(page);
     if settings_no(s) != 0 {
         return false;
     }
-    u32_at(page, 24) <= 4096
+    u32_at(page, FRAMES_AT) as usize <= MOST_FRAMES
 }
 
 // How many of the first verdicts are 0.
 fn voiced_in(page: &[u8], frames: usize) -> usize
-    requires { ⌜ 28 + frames ≤ length (now page) ⌝ }
+    requires { ⌜ verdicts-at + frames ≤ length (now page) ⌝ }
     ensures { λ r. ⌜ r ≡ voiced-before (now (page .entry)) frames ⌝ }
 {
     let mut voiced = 0;
     for i in 0..frames {
-        if page[28 + i] == 0 {
+        if page[VERDICTS_AT + i] == 0 {
             voiced += 1;
         }
     }
@@ -71,26 +88,27 @@ fn sizes_good(page: &[u8]) -> bool
     requires { ⌜ head-good (now page) ≡ true ⌝ }
     ensures { λ r. ⌜ r ≡ sizes-good (now (page .entry)) ⌝ }
 {
-    let frames = u32_at(page, 24) as usize;
-    if page.len() < 28 + frames {
+    let frames = u32_at(page, FRAMES_AT) as usize;
+    if page.len() < VERDICTS_AT + frames {
         return false;
     }
     let voiced = voiced_in(page, frames);
-    if page.len() != 36 + frames + 7 * voiced {
+    if page.len() != sheet_length(frames, voiced) {
         return false;
     }
-    if u32_at(page, 28 + frames) as usize != voiced {
+    if u32_at(page, VERDICTS_AT + frames) as usize != voiced {
         return false;
     }
-    u32_at(page, 32 + frames + 3 * voiced) as usize == voiced
+    u32_at(page, PAIRS_AT + frames + PAIR_BYTES * voiced) as usize == voiced
 }
 
+// The settings, the frames and the voiced frames of a page whose sections have these sizes.
 pub fn head_of(page: &[u8]) -> Head
     requires { ⌜ (head-good (now page) ≡ true) × (sizes-good (now page) ≡ true) ⌝ }
     ensures { λ r. ⌜ r ≡ head-in (now (page .entry)) ⌝ }
 {
     let settings = settings_at(page);
-    let frames = u32_at(page, 24) as usize;
+    let frames = u32_at(page, FRAMES_AT) as usize;
     let voiced = voiced_in(page, frames);
     Head {
         settings,
@@ -107,14 +125,17 @@ fn read_row(page: &[u8], h: Head, i: usize, seen: usize) -> RowRead
     let s = h.settings;
     let frames = h.frames;
     let voiced = h.voiced;
-    let verdict = page[28 + i] as i32;
+    let verdict = page[VERDICTS_AT + i] as i32;
     if verdict != 0 {
         return row_of(s, verdict, 0, 0, 0);
     }
-    let pair = 32 + frames + 3 * seen;
+    let pair = PAIRS_AT + frames + PAIR_BYTES * seen;
     let index = u16_at(page, pair) as i32;
-    let contour = page[pair + 2] as i32;
-    let correlation = i32_at(page, 36 + frames + 3 * voiced + 4 * seen);
+    let contour = page[pair + INDEX_BYTES] as i32;
+    let correlation = i32_at(
+        page,
+        CORRELATIONS_AT + frames + PAIR_BYTES * voiced + CORRELATION_BYTES * seen,
+    );
     row_of(s, 0, index, contour, correlation)
 }
 

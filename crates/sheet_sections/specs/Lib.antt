@@ -1,4 +1,4 @@
--- A sheet's bytes. Definitions: `Sheet`; laws: `SheetLaws`, and of one row's part `PartLaws`.
+-- A sheet's bytes. Definitions: `Sheet`; laws: `SheetLaws`, and of one row's bytes `RowBytesLaws`.
 pub mod Sheet
 pub mod SheetLaws
-pub mod PartLaws
+pub mod RowBytesLaws

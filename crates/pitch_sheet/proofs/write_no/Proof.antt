@@ -6,7 +6,7 @@ use lib.ListN.{length}
 use Rattle.pitch_settings.specs.Settings.{settings-no}
 use Rattle.sheet_sections.specs.declared.Section.the-variants.{Pairs}
 use Rattle.sheet_sections.specs.Sheet.{sheet, sheet-length, rows-of}
-use Rattle.sheet_sections.specs.SheetLaws.{length-rows, length-sheet, entries-le}
+use Rattle.sheet_sections.specs.SheetLaws.{length-rows, length-sheet, section-entries-le}
 use Rattle.pitch_sheet.specs.Calls.{whole-rows}
 use Rattle.pitch_sheet.specs.CallsLaws.{no-settings, no-frames, no-rows, no-table, no-room, no-refusal}
 use Rattle.pitch_sheet.proofs.write_no.Statement.{statement}
@@ -58,7 +58,7 @@ sheet-length-requires : tie.Need-sheet-length-requires
 sheet-length-requires c κs =
     let a = c .before .before .before .before .before .before .before .args in
     let rs = rows-of (a .table .now) (a .frames) in
-    (c .before .before .before .before .if2 .left, omega (arith, c .voiced-rows .ensures, entries-le Pairs rs, length-rows (a .table .now) (a .frames), c .before .before .before .before .if2 .left))
+    (c .before .before .before .before .if2 .left, omega (arith, c .voiced-rows .ensures, section-entries-le Pairs rs, length-rows (a .table .now) (a .frames), c .before .before .before .before .if2 .left))
 
 returns-5 : tie.Need-returns-5
 returns-5 c =

@@ -1,7 +1,6 @@
 -- `sheet_page::head_of` meets its contract.
 use mathlib.Core.Path.{ap, _∙_}
 use native.Mathlib.Omega.{arith}
-use Rattle.sheet_sections.specs.Sheet.{sheet-length}
 use Rattle.sheet_page.specs.Page.{frames-in, voiced-before, voiced-in}
 use Rattle.sheet_page.specs.PageLaws.{head-means, sizes-means}
 use borrow.Author.Needs.{needs}
@@ -18,7 +17,7 @@ cast-frames : tie.Need-cast-frames
 cast-frames c = search needs
 
 voiced-in-requires : tie.Need-voiced-in-requires
-unfolding frames-in sheet-length
+unfolding frames-in
 voiced-in-requires c κs =
     let s = c .before .before .before in
     omega (arith, c .u32-at .ensures, sizes-means (s .args .page .now) (s .pre .1) .whole)

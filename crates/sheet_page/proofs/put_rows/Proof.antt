@@ -8,7 +8,7 @@ use lib.Seq.{sets, length-sets}
 use Rattle.sheet_rows.specs.declared.RowRead.the-variants.{Held}
 use Rattle.sheet_page.specs.declared.Head.{Head}
 use Rattle.sheet_page.specs.Page.{frames-in, voiced-before, row-in, rows-in, numbers-of}
-use Rattle.sheet_page.specs.PageLaws.{voiced-none, voiced-le, seen-yes, seen-no, good, good-tests, never-bad, first-rows, put-none, put-next}
+use Rattle.sheet_page.specs.PageLaws.{voiced-none, voiced-le, counted-voiced, counted-quiet, good, good-tests, never-bad, first-rows, put-none, put-next}
 use borrow.Author.Needs.{needs}
 use Rattle.sheet_page.proofs.put_rows.Statement.{statement}
 use Rattle.sheet_page.proofs.put_rows.Tie as tie
@@ -62,8 +62,8 @@ loop-again c =
     let e = row-is k in (
       omega arith,
       ⊎-elim
-          (λ w. w .1 ∙ ap (λ (n : ℕ). n + 1) (q .loop .inv .1) ∙ sym (seen-yes p (q .loop .i) (k .before .r .given .0 .0) e (w .0 .taken)))
-          (λ w. w .1 ∙ q .loop .inv .1 ∙ sym (seen-no p (q .loop .i) (k .before .r .given .0 .0) e (w .0 .left)))
+          (λ w. counted-voiced p (q .loop .i) (k .before .r .given .0 .0) e (q .loop .inv .1) (w .1) (w .0 .taken))
+          (λ w. counted-quiet p (q .loop .i) (k .before .r .given .0 .0) e (q .loop .inv .1) (w .1) (w .0 .left))
           (c .if1 .came),
       c .before .before .before .before .put-row .ensures ∙ put-next p (q .before .before .args .table .now) (q .loop .i) (q .loop .inv .2) e,
     )

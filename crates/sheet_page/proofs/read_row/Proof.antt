@@ -12,8 +12,10 @@ use Rattle.sheet_rows.specs.Rows.{row-of}
 use Rattle.sheet_page.specs.PageLaws.{row-voiced, row-quiet, head-means, sizes-means, Places, places, small, verdict-within}
 use Prim.Native.Nat.{ℕ, _+_, _*_, _≤_, _<_}
 use native.Mathlib.Omega.{arith}
-use Rattle.pitch_settings.specs.SettingsLaws.{analysed-held}
-use Rattle.pitch_settings.specs.Settings.{held-no}
+use Rattle.pitch_settings.specs.Settings.{settings-no}
+use Rattle.pitch_table.specs.Row.{most-frames}
+use Rattle.sheet_sections.specs.declared.Section.the-variants.{Pairs, Correlations}
+use Rattle.sheet_sections.specs.Sheet.{index-bytes, entry-bytes, verdicts-at, pairs-at, correlations-at, sheet-length}
 use Rattle.sheet_page.specs.declared.Head.{Head}
 use Rattle.sheet_page.specs.Page.{frames-in, verdict-in, voiced-in, pair-place, correlation-place}
 use Rattle.sheet_page.proofs.read_row.Statement.{statement}
@@ -26,10 +28,10 @@ module _ (c : tie.Start) where
   voiced-are : c .args .h .voiced ≡ voiced-in (c .args .page .now)
   voiced-are = ap (λ (h : Head). h .voiced) (c .pre .2)
 
-  size : length (c .args .page .now) ≤ 36864
+  size : length (c .args .page .now) ≤ sheet-length most-frames most-frames
   size = small (c .args .page .now) (head-means (c .args .page .now) (c .pre .0)) (sizes-means (c .args .page .now) (c .pre .1))
 
-  within : 28 + c .args .i < length (c .args .page .now)
+  within : verdicts-at + c .args .i < length (c .args .page .now)
   within = verdict-within (c .args .page .now) (sizes-means (c .args .page .now) (c .pre .1)) (c .args .i) (c .pre .3)
 
   settled : held-no (c .args .h .settings) ≡ 0
@@ -40,11 +42,11 @@ voiced-places : (c : tie.Else1) → Places (c .before .before .before .before .a
 unfolding verdict-in
 voiced-places c = let s = c .before .before .before .before in places (s .args .page .now) (sizes-means (s .args .page .now) (s .pre .1)) (s .args .i) (s .pre .3) (c .if1 .left)
 
-pair-at : (c : tie.Else1) → 32 + c .before .before .before .before .args .h .frames + 3 * c .before .before .before .before .args .seen ≡ pair-place (c .before .before .before .before .args .page .now) (c .before .before .before .before .args .i)
+pair-at : (c : tie.Else1) → pairs-at 0 + c .before .before .before .before .args .h .frames + entry-bytes Pairs * c .before .before .before .before .args .seen ≡ pair-place (c .before .before .before .before .args .page .now) (c .before .before .before .before .args .i)
 pair-at c = let s = c .before .before .before .before in omega (arith, frames-are s, s .pre .4, voiced-places c .pair-is)
 
 correlation-at : (c : tie.Else1)
-    → 36 + c .before .before .before .before .args .h .frames + 3 * c .before .before .before .before .args .h .voiced + 4 * c .before .before .before .before .args .seen ≡ correlation-place (c .before .before .before .before .args .page .now) (c .before .before .before .before .args .i)
+    → correlations-at 0 0 + c .before .before .before .before .args .h .frames + entry-bytes Pairs * c .before .before .before .before .args .h .voiced + entry-bytes Correlations * c .before .before .before .before .args .seen ≡ correlation-place (c .before .before .before .before .args .page .now) (c .before .before .before .before .args .i)
 correlation-at c = let s = c .before .before .before .before in omega (arith, frames-are s, voiced-are s, s .pre .4, voiced-places c .correlation-is)
 
 add-verdict : tie.Need-add-verdict
@@ -54,7 +56,7 @@ shared-slice-read-verdict : tie.Need-shared-slice-read-verdict
 shared-slice-read-verdict c = within (c .before .before .before)
 
 cast-verdict : tie.Need-cast-verdict
-cast-verdict c = record { sfits = omega (arith, c .shared-slice-known2 .given (28 + c .before .before .before .args .i)) }
+cast-verdict c = record { sfits = omega (arith, c .shared-slice-known2 .given (verdicts-at + c .before .before .before .args .i)) }
 
 row-of-requires : tie.Need-row-of-requires
 row-of-requires c κs = settled (c .before .before .before .before)
@@ -65,7 +67,7 @@ returns c =
     let s = c .before .before .before .before .before in
     let p = s .args .page .now in
     let b = verdict-in p (s .args .i) in
-    let l : b < 256 = omega (arith, c .before .before .shared-slice-known2 .given (28 + s .args .i)) in
+    let l : b < 256 = omega (arith, c .before .before .shared-slice-known2 .given (verdicts-at + s .args .i)) in
     c .row-of .ensures .0
     ∙ ap₂ (λ (x : Settings) (v : ℤ). row-of x v (pos 0) (pos 0) (pos 0)) (ap (λ (h : Head). h .settings) (s .pre .2)) (toZ-pos w32 b (omega arith))
     ∙ sym (row-quiet p (s .args .i) (c .before .if1 .taken))
@@ -92,7 +94,7 @@ shared-slice-read-contour : tie.Need-shared-slice-read-contour
 shared-slice-read-contour c = omega (arith, pair-at (c .before .before), voiced-places (c .before .before) .pair-within)
 
 cast-contour : tie.Need-cast-contour
-cast-contour c = let s = c .before .before .before .before .before .before in record { sfits = omega (arith, c .shared-slice-known3 .given (32 + s .args .h .frames + 3 * s .args .seen + 2)) }
+cast-contour c = let s = c .before .before .before .before .before .before in record { sfits = omega (arith, c .shared-slice-known3 .given (pairs-at 0 + s .args .h .frames + entry-bytes Pairs * s .args .seen + index-bytes)) }
 
 add-i32-at : tie.Need-add-i32-at
 add-i32-at c = omega (arith, correlation-at (c .before .before), voiced-places (c .before .before) .correlation-within, size (c .before .before .before .before .before .before))
@@ -123,11 +125,11 @@ returns-2 c =
     let p = s .args .page .now in
     let i = s .args .i in
     let a = ap (λ (h : Head). h .settings) (s .pre .2) in
-    let n : toZ w32 (c .before .before .before .u16-at .result) ≡ pos (number-at 2 p (pair-place p i)) =
-    toZ-pos w32 (c .before .before .before .u16-at .result) (omega arith) ∙ ap pos (c .before .before .before .u16-at .ensures ∙ ap (number-at 2 p) (pair-at q)) in
-    let place = 32 + s .args .h .frames + 3 * s .args .seen + 2 in
+    let n : toZ w32 (c .before .before .before .u16-at .result) ≡ pos (number-at index-bytes p (pair-place p i)) =
+    toZ-pos w32 (c .before .before .before .u16-at .result) (omega arith) ∙ ap pos (c .before .before .before .u16-at .ensures ∙ ap (number-at index-bytes p) (pair-at q)) in
+    let place = pairs-at 0 + s .args .h .frames + entry-bytes Pairs * s .args .seen + index-bytes in
     let l : getD p place 0 < 256 = omega (arith, c .before .before .shared-slice-known3 .given place) in
-    let j : toZ w32 (getD p place 0) ≡ pos (getD p (pair-place p i + 2) 0) = toZ-pos w32 (getD p place 0) (omega arith) ∙ ap (λ (m : ℕ). pos (getD p (m + 2) 0)) (pair-at q) in
+    let j : toZ w32 (getD p place 0) ≡ pos (getD p (pair-place p i + index-bytes) 0) = toZ-pos w32 (getD p place 0) (omega arith) ∙ ap (λ (m : ℕ). pos (getD p (m + index-bytes) 0)) (pair-at q) in
     let k : toZ w32 (ofZ w32 (c .before .i32-at .result)) ≡ signed-at p (correlation-place p i) = r-got w32 (c .before .i32-at .ok) (c .before .i32-at .ensures) .val ∙ ap (signed-at p) (correlation-at q) in
     c .row-of2 .ensures .0
     ∙ (λ t. row-of (a t) (pos 0) (n t) (j t) (k t))

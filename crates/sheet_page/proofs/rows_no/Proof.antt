@@ -8,7 +8,7 @@ use borrow.Author.Count.{below-more}
 use Rattle.sheet_rows.specs.declared.RowRead.the-variants.{Held}
 use Rattle.sheet_page.specs.declared.Head.{Head}
 use Rattle.sheet_page.specs.Page.{frames-in, voiced-before, row-in, readable}
-use Rattle.sheet_page.specs.PageLaws.{voiced-none, voiced-le, seen-yes, seen-no, rows-yes, rows-no}
+use Rattle.sheet_page.specs.PageLaws.{voiced-none, voiced-le, counted-voiced, counted-quiet, rows-yes, rows-no}
 use borrow.Author.Needs.{needs}
 use Rattle.sheet_page.proofs.rows_no.Statement.{statement}
 use Rattle.sheet_page.proofs.rows_no.Tie as tie
@@ -50,8 +50,8 @@ loop-again c =
     let e = row-is k in (
       omega arith,
       ⊎-elim
-          (λ w. w .1 ∙ ap (λ (n : ℕ). n + 1) (q .loop .inv .1) ∙ sym (seen-yes p (q .loop .i) (k .before .r .given .0 .0) e (w .0 .taken)))
-          (λ w. w .1 ∙ q .loop .inv .1 ∙ sym (seen-no p (q .loop .i) (k .before .r .given .0 .0) e (w .0 .left)))
+          (λ w. counted-voiced p (q .loop .i) (k .before .r .given .0 .0) e (q .loop .inv .1) (w .1) (w .0 .taken))
+          (λ w. counted-quiet p (q .loop .i) (k .before .r .given .0 .0) e (q .loop .inv .1) (w .1) (w .0 .left))
           (c .if1 .came),
       below-more (λ (j : ℕ). readable (row-in p j) ≡ true) (q .loop .i) (q .loop .inv .2) (ap readable e),
     )

@@ -7,7 +7,7 @@ use Rattle.pitch_table.specs.Row.{row-at}
 use Rattle.sheet_rows.specs.Rows.{FieldsFit}
 use Rattle.sheet_rows.specs.RowsLaws.{holds-fit}
 use Rattle.sheet_sections.specs.declared.Section.the-variants.{Verdicts, Pairs, Correlations}
-use Rattle.sheet_sections.specs.Sheet.{entries, section, sheet, rows-of}
+use Rattle.sheet_sections.specs.Sheet.{frames-at, section-entries, section, sheet, rows-of}
 use Rattle.lists.specs.PutLaws.{put-then}
 use Rattle.sheet_sections.specs.SheetLaws.{length-rows, settings-length, verdicts-count, correlations-count}
 use Rattle.sheet_sections.proofs.put_sheet.Statement.{statement}
@@ -15,7 +15,7 @@ use Rattle.sheet_sections.proofs.put_sheet.Tie as tie
 
 -- the four sections' room
 room : (c : tie.Start)
-    → 24 + length (section (entries Verdicts (rows-of (c .args .table .now) (c .args .frames)))) + length (section (entries Pairs (rows-of (c .args .table .now) (c .args .frames)))) + length (section (entries Correlations (rows-of (c .args .table .now) (c .args .frames))))
+    → frames-at + length (section (section-entries Verdicts (rows-of (c .args .table .now) (c .args .frames)))) + length (section (section-entries Pairs (rows-of (c .args .table .now) (c .args .frames)))) + length (section (section-entries Correlations (rows-of (c .args .table .now) (c .args .frames))))
     ≤ length (c .args .page .now)
 unfolding sheet
 room c = let rs = rows-of (c .args .table .now) (c .args .frames) in simp (length-append, settings-length (c .args .s)) at (c .pre .5)

@@ -10,12 +10,11 @@ use mir.Val.{toZ, ofZ}
 use Rattle.zint.specs.ReadLaws.{r-elem, as-unsigned}
 use Rattle.sheet_sections.specs.declared.Section.{Section}
 use Rattle.sheet_sections.specs.declared.Section.the-variants.{Verdicts, Pairs, Correlations}
-use Rattle.sheet_sections.specs.Sheet.{listed, part}
-use Rattle.sheet_sections.specs.SheetLaws.{width}
-use Rattle.sheet_sections.specs.PartLaws.{listed-verdict, listed-pair, listed-correlation, unlisted-pair, unlisted-correlation, part-length, put-unlisted, put-verdict, put-pair, put-correlation}
+use Rattle.sheet_sections.specs.Sheet.{entry-bytes, has-entry, row-bytes}
+use Rattle.sheet_sections.specs.RowBytesLaws.{has-verdict, has-pair, has-correlation, no-pair, no-correlation, row-bytes-length, put-no-entry, put-verdict, put-pair, put-correlation}
 use borrow.Author.Needs.{needs}
-use Rattle.sheet_sections.proofs.put_part.Statement.{statement}
-use Rattle.sheet_sections.proofs.put_part.Tie as tie
+use Rattle.sheet_sections.proofs.put_row_bytes.Statement.{statement}
+use Rattle.sheet_sections.proofs.put_row_bytes.Tie as tie
 
 -- the verdict, as the code has it
 verdict-is : (c : tie.After-struct-told) → toZ w32 (ofZ w32 (c .before .before .args .r .verdict)) ≡ c .before .before .args .r .verdict
@@ -28,16 +27,16 @@ not-voiced : (c : tie.After-struct-told) → (ofZ w32 (c .before .before .args .
 not-voiced c g e = g (ap (ofZ w32) e)
 
 -- how long the part is
-room : (c : tie.After-struct-told) (k : Section) → c .before .before .args .which ≡ k → listed k (c .before .before .args .r) ≡ true → c .before .before .args .at + width k ≤ length (c .before .before .args .page .now)
+room : (c : tie.After-struct-told) (k : Section) → c .before .before .args .which ≡ k → has-entry k (c .before .before .args .r) ≡ true → c .before .before .args .at + entry-bytes k ≤ length (c .before .before .args .page .now)
 room c k e l =
     let a = c .before .before .args in
-    omega (arith, c .before .before .pre .1, ap (λ (w : Section). length (part w (a .r))) e, part-length k (a .r) l)
+    omega (arith, c .before .before .pre .1, ap (λ (w : Section). length (row-bytes w (a .r))) e, row-bytes-length k (a .r) l)
 
-pair-room : (c : tie.Else1) → c .before .before .before .before .before .args .at + 3 ≤ length (c .before .before .before .before .before .args .page .now)
-pair-room c = room (c .before .before .before) Pairs (c .before .enum-told2 .given .1) (listed-pair (c .before .before .before .before .before .args .r) (is-voiced (c .before .before .before) (c .if1 .left)))
+pair-room : (c : tie.Else1) → c .before .before .before .before .before .args .at + entry-bytes Pairs ≤ length (c .before .before .before .before .before .args .page .now)
+pair-room c = room (c .before .before .before) Pairs (c .before .enum-told2 .given .1) (has-pair (c .before .before .before .before .before .args .r) (is-voiced (c .before .before .before) (c .if1 .left)))
 
-correlation-room : (c : tie.Else2) → c .before .before .before .before .before .args .at + 4 ≤ length (c .before .before .before .before .before .args .page .now)
-correlation-room c = room (c .before .before .before) Correlations (c .before .enum-told3 .given .1) (listed-correlation (c .before .before .before .before .before .args .r) (is-voiced (c .before .before .before) (c .if2 .left)))
+correlation-room : (c : tie.Else2) → c .before .before .before .before .before .args .at + entry-bytes Correlations ≤ length (c .before .before .before .before .before .args .page .now)
+correlation-room c = room (c .before .before .before) Correlations (c .before .enum-told3 .given .1) (has-correlation (c .before .before .before .before .before .args .r) (is-voiced (c .before .before .before) (c .if2 .left)))
 
 -- the numbers that are written
 index-is : (c : tie.After-struct-told2) → toZ w32 (ofZ w32 (c .before .before .before .before .before .before .before .before .args .r .index)) ≡ c .before .before .before .before .before .before .before .before .args .r .index
@@ -53,13 +52,13 @@ cast-page : tie.Need-cast-page
 cast-page c = let s = c .before .before .before .before in as-unsigned w8 (natAbs (s .args .r .verdict)) (verdict-is (c .before .before) ∙ s .pre .0 .verdict) (omega (arith, s .pre .0 .verdict-le))
 
 slice-write-page : tie.Need-slice-write-page
-slice-write-page c = omega (arith, room (c .before .before) Verdicts (c .enum-told .given .1) (listed-verdict (c .before .before .before .before .args .r)))
+slice-write-page c = omega (arith, room (c .before .before) Verdicts (c .enum-told .given .1) (has-verdict (c .before .before .before .before .args .r)))
 
 add-result : tie.Need-add-result
-add-result c = omega (arith, room (c .before .before) Verdicts (c .enum-told .given .1) (listed-verdict (c .before .before .before .before .args .r)))
+add-result c = omega (arith, room (c .before .before) Verdicts (c .enum-told .given .1) (has-verdict (c .before .before .before .before .args .r)))
 
 returns : tie.Need-returns
-returns c = let a = c .before .before .before .before .before .args in rw (c .before .enum-told2 .given .1) (put-unlisted Pairs (a .r) (a .page .now) (a .at) (unlisted-pair (a .r) (not-voiced (c .before .before .before) (c .if1 .taken))))
+returns c = let a = c .before .before .before .before .before .args in rw (c .before .enum-told2 .given .1) (put-no-entry Pairs (a .r) (a .page .now) (a .at) (no-pair (a .r) (not-voiced (c .before .before .before) (c .if1 .taken))))
 
 cast-put-u16 : tie.Need-cast-put-u16
 cast-put-u16 c = let s = c .before .before .before .before .before .before .before .before in as-unsigned w16 (natAbs (s .args .r .index)) (index-is c ∙ s .pre .0 .index) (omega (arith, s .pre .0 .index-le))
@@ -80,7 +79,7 @@ add-result-2 : tie.Need-add-result-2
 add-result-2 c = omega (arith, pair-room (c .before .before .before .before .before .before .before .before), c .before .before .before .before .before .before .before .before .before .before .before .before .before .good)
 
 returns-2 : tie.Need-returns-2
-returns-2 c = let a = c .before .before .before .before .before .args in rw (c .before .enum-told3 .given .1) (put-unlisted Correlations (a .r) (a .page .now) (a .at) (unlisted-correlation (a .r) (not-voiced (c .before .before .before) (c .if2 .taken))))
+returns-2 c = let a = c .before .before .before .before .before .args in rw (c .before .enum-told3 .given .1) (put-no-entry Correlations (a .r) (a .page .now) (a .at) (no-correlation (a .r) (not-voiced (c .before .before .before) (c .if2 .taken))))
 
 put-i32-requires : tie.Need-put-i32-requires
 put-i32-requires c κs = omega (arith, correlation-room (c .before .before))
@@ -109,8 +108,8 @@ returns-5 c =
     rw (c .before .before .before .before .before .before .enum-told3 .given .1)
     (put-correlation (a .r) (a .page .now) (a .at) (is-voiced (c .before .before .before .before .before .before .before .before) (c .before .before .before .before .before .if2 .left)) (c .before .before .put-i32 .ensures) (correlation-is (c .before .before .before)))
 
-pub put-part-spec : {M : Type 1} → statement M
-put-part-spec =
+pub put-row-bytes-spec : {M : Type 1} → statement M
+put-row-bytes-spec =
     tie.close
     (tie.spec (λ c. search needs) cast-page slice-write-page add-result (λ c. search needs) returns cast-put-u16 put-u16-requires cast-page-2 add-page
     slice-write-page-2 add-result-2 (λ c. search needs) returns-2 put-i32-requires add-result-3 same-length returns-3 same-length-2 returns-4
