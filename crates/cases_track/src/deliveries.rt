@@ -17,11 +17,13 @@ use cases_io::settings_at;
 use cases_io::skip;
 use cases_io::u32_at;
 use cases_io::usize_at;
+use pitch_settings::LONGEST_FRAME;
 use pitch_settings::Settings;
 use pitch_table::ROW_SIZE;
-use pitch_track::Answer;
 use pitch_track::Track;
 use recording_io::sample_room;
+use track_paper::Prev;
+use track_paper::TrackAnswer;
 use zint::wrapping_sub_i32;
 
 // What the places of a state hold that are not listed.
@@ -63,17 +65,20 @@ fn settings_of(body: &[u8]) -> Settings {
 
 // The state that the body hands in.
 fn handed_in(body: &[u8]) -> Track {
-    let mut held = [UNLISTED; 640];
-    let n = least(u32_at(body, 62), 640);
+    let mut held = [UNLISTED; LONGEST_FRAME];
+    let n = least(u32_at(body, 62), LONGEST_FRAME);
     load_i16s(body, 90, &mut held[..n]);
     let settings = settings_of(body);
+    let prev = Prev {
+        lag: i32_at(body, 50),
+        correlation: i32_at(body, 54),
+    };
     Track {
         settings,
         frames: usize_at(body, 34),
         held,
         count: usize_at(body, 42),
-        lag: i32_at(body, 50),
-        correlation: i32_at(body, 54),
+        prev,
     }
 }
 
@@ -86,10 +91,10 @@ fn first_track(body: &[u8]) -> Track {
 }
 
 // Whether an answer has the number told, and the frames where it is no refusal.
-fn answer_agrees(a: Answer, number: usize, frames: usize) -> bool {
+fn answer_agrees(a: TrackAnswer, number: usize, frames: usize) -> bool {
     match a {
-        Answer::Accepted(done) => number == 0 && done == frames,
-        Answer::Refused(no) => number != 0 && no == number,
+        TrackAnswer::Accepted(done) => number == 0 && done == frames,
+        TrackAnswer::Refused(no) => number != 0 && no == number,
     }
 }
 
@@ -104,7 +109,7 @@ fn start_agrees(body: &[u8]) -> bool {
 }
 
 // Whether a delivery is answered as told at `at`, with these frames done and samples held after it.
-fn delivery_agrees(body: &[u8], at: usize, a: Answer, frames: usize, count: usize) -> bool {
+fn delivery_agrees(body: &[u8], at: usize, a: TrackAnswer, frames: usize, count: usize) -> bool {
     let number = byte_at(body, skip(body, at, 4)) as usize;
     frames == usize_at(body, skip(body, at, 5))
         && count == usize_at(body, skip(body, at, 13))
@@ -137,15 +142,16 @@ fn deliver_all(body: &[u8], from: usize, samples: &[i16], table: &mut [i32]) -> 
 // Whether the places for samples are as told from `at` on, as many as are listed.
 fn places_agree(body: &[u8], at: usize, t: Track) -> bool {
     let held = t.held;
-    let n = least(u32_at(body, 78), 640);
+    let n = least(u32_at(body, 78), LONGEST_FRAME);
     same_i16s(body, at, &held[..n])
 }
 
 // Whether the state at the end is as told, its places from `at` on.
 fn end_agrees(body: &[u8], at: usize, t: Track) -> bool {
     let s = t.settings;
-    t.lag == i32_at(body, 82)
-        && t.correlation == i32_at(body, 86)
+    let prev = t.prev;
+    prev.lag == i32_at(body, 82)
+        && prev.correlation == i32_at(body, 86)
         && same_settings(s, settings_of(body))
         && places_agree(body, at, t)
 }

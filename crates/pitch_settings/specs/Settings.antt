@@ -36,6 +36,10 @@ held-no s = settings-refusal (s .rate) (s .nb) (complexity-held (s .complexity))
 unfoldable pub frame-length : Settings → ℕ
 frame-length s = (20 + 5 * s .nb) * s .rate
 
+-- the samples of the longest frame: 16 kHz, four subframes
+abbrev pub longest-frame : ℕ
+longest-frame = 640
+
 -- a track advances by hop = 5 nb fs
 unfoldable pub hop-length : Settings → ℕ
 hop-length s = 5 * s .nb * s .rate

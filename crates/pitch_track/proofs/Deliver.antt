@@ -14,10 +14,11 @@ use Rattle.answers.specs.Answer.{answer-numbers}
 use Rattle.pitch_track.specs.declared.Track.{Track}
 use Rattle.pitch_track.specs.declared.Started.{Started}
 use Rattle.pitch_track.specs.declared.Delivered.{Delivered}
-use Rattle.pitch_track.specs.declared.Answer.the-variants.{Accepted, Refused}
+use Rattle.track_paper.specs.declared.Prev.{Prev}
+use Rattle.track_paper.specs.declared.TrackAnswer.the-variants.{Accepted, Refused}
 use Rattle.pitch_settings.specs.Settings.{settings-no, hop-length}
-use Rattle.pitch_track.specs.Paper.{F, previous, paper-numbers}
-use Rattle.pitch_track.specs.Step.{padded, answer-of, track-answer-numbers, start-call, answer-no, pending, previous-of, delivery-no, frames-after, DeliveryOutcome, delivery-outcome, accepted-delivery, deliver-call}
+use Rattle.track_paper.specs.Paper.{F, answer-of, answer-no, track-answer-numbers, previous, paper-numbers}
+use Rattle.pitch_track.specs.Step.{padded, start-call, pending, delivery-no, frames-after, DeliveryOutcome, delivery-outcome, accepted-delivery, deliver-call}
 use Rattle.pitch_table.specs.Row.{row-size}
 
 -- the number that `start` says is that of the settings
@@ -30,9 +31,9 @@ start-number s = by (eqb (settings-no s) 0) refl
     by false e = refl
 
 -- an answer by its number, in numbers
-answered : (n f : ℕ) → track-answer-numbers (answer-of n f) ≡ answer-numbers n (pos f ∷ [])
+answer-in-numbers : (n f : ℕ) → track-answer-numbers (answer-of n f) ≡ answer-numbers n (pos f ∷ [])
 unfolding answer-of
-answered n f = by (eqb n 0) refl
+answer-in-numbers n f = by (eqb n 0) refl
   where
     by : (b : Bool) → eqb n 0 ≡ b → track-answer-numbers (cond b (Accepted f) (Refused n)) ≡ pos n ∷ cond b (pos f ∷ []) []
     by true e = ap (λ (k : ℕ). pos k ∷ pos f ∷ []) (sym (eqb-true n 0 e))
@@ -40,7 +41,7 @@ answered n f = by (eqb n 0) refl
 
 pub started : (s : Settings) (r : Started) → r ≡ start-call s → (r ≡ start-call s) × (track-answer-numbers (r .answer) ≡ answer-numbers (settings-no s) (pos 0 ∷ []))
 unfolding start-call
-started s r e = (e, ap (λ (q : Started). track-answer-numbers (q .answer)) e ∙ answered (settings-no s) 0)
+started s r e = (e, ap (λ (q : Started). track-answer-numbers (q .answer)) e ∙ answer-in-numbers (settings-no s) 0)
 
 module _ (tr : Track) (t d : List ℤ) where
   answer-is : deliver-call tr t d .delivered .answer ≡ answer-of (delivery-no tr t d) (frames-after tr d)
@@ -55,7 +56,7 @@ module _ (tr : Track) (t d : List ℤ) where
 
   pub delivers : (r : Delivered) (table : List ℤ) → delivery-outcome r table ≡ deliver-call tr t d
       → (delivery-outcome r table ≡ deliver-call tr t d) × (track-answer-numbers (r .answer) ≡ answer-numbers (delivery-no tr t d) (pos (frames-after tr d) ∷ []))
-  delivers r table e = (e, ap track-answer-numbers (ap (λ (o : DeliveryOutcome). o .delivered .answer) e ∙ answer-is) ∙ answered (delivery-no tr t d) (frames-after tr d))
+  delivers r table e = (e, ap track-answer-numbers (ap (λ (o : DeliveryOutcome). o .delivered .answer) e ∙ answer-is) ∙ answer-in-numbers (delivery-no tr t d) (frames-after tr d))
 
   pub refuses : (delivery-no tr t d ≡ 0 → ⊥) → deliver-call tr t d ≡ delivery-outcome (record { answer = Refused (delivery-no tr t d); track = tr }) t
   unfolding deliver-call
@@ -65,17 +66,16 @@ module _ (tr : Track) (t d : List ℤ) where
   unfolding deliver-call
   accepts h = rw (eq-eqb (delivery-no tr t d) 0 h)
 
-  pub made : (k n : ℕ) (held : List ℤ) (left : ℕ) (lag corr : ℤ) (table : List ℤ)
+  pub made : (k n : ℕ) (held : List ℤ) (left : ℕ) (prev : Prev) (table : List ℤ)
       → n ≡ tr .frames + k
       → held ≡ padded (drop (k * hop-length (tr .settings)) (pending tr d))
       → left ≡ tr .count + length d - k * hop-length (tr .settings)
-      → lag ≡ previous (tr .settings) (pending tr d) (previous-of tr) k .lag
-      → corr ≡ previous (tr .settings) (pending tr d) (previous-of tr) k .correlation
-      → table ≡ take (tr .frames * row-size) t ++ paper-numbers (tr .settings) (pending tr d) (previous-of tr) k ++ drop ((tr .frames + k) * row-size) t
-      → delivery-outcome (record { answer = Accepted n; track = record { settings = tr .settings; frames = n; held = held; count = left; lag = lag; correlation = corr } }) table
+      → prev ≡ previous (tr .settings) (pending tr d) (tr .prev) k
+      → table ≡ take (tr .frames * row-size) t ++ paper-numbers (tr .settings) (pending tr d) (tr .prev) k ++ drop ((tr .frames + k) * row-size) t
+      → delivery-outcome (record { answer = Accepted n; track = record { settings = tr .settings; frames = n; held = held; count = left; prev = prev } }) table
       ≡ accepted-delivery tr t d k
   unfolding accepted-delivery
-  made k n held left lag corr table a b c d e f = rw (a, b, c, d, e, f)
+  made k n held left prev table a b c d e = rw (a, b, c, d, e)
 
 -- what is gathered after the last new frame's start is all that is left
 pub kept : (x : List ℤ) (from left : ℕ) → length x ≡ from + left → take left (drop from x) ≡ drop from x

@@ -1,4 +1,4 @@
--- Lists: the samples held and then those delivered, and a list laid at the front of 640 places.
+-- Lists: the samples held and then those delivered, and a list laid at the front of the places for samples held.
 use Prim.Native.Nat.{ℕ, zero, suc, _+_, _-_, _*_, _≤_, _<_}
 use mathlib.Core.Path.{_≡_, refl, sym, ap, _∙_}
 use mathlib.Core.List.{List, [], _∷_, _++_, append-assoc}
@@ -6,6 +6,7 @@ use native.Mathlib.Omega.{arith}
 use lib.IntN.{ℤ, pos}
 use lib.ListN.{length, getD, take, drop, set, replicate, List·getD-append, length-take, length-drop, length-append, length-replicate}
 use lib.Seq.{length-take-le, getD-take, getD-drop, getD-append-add, take-suc, drop-cons, set-at, append-snoc, take-all, take-length, take-append-seam, take-at, drop-at, sets, sets-eq, drop-drop}
+use Rattle.pitch_settings.specs.Settings.{longest-frame}
 use Rattle.pitch_track.specs.Step.{zeros, padded}
 
 module _ (held samples : List ℤ) (count : ℕ) (fits : count ≤ length held) where
@@ -22,9 +23,9 @@ module _ (held samples : List ℤ) (count : ℕ) (fits : count ≤ length held) 
   pub length-pending : length (take count held ++ samples) ≡ count + length samples
   length-pending = length-append (take count held) samples ∙ ap (λ (n : ℕ). n + length samples) (length-take-le count held fits)
 
-pub length-zeros : length zeros ≡ 640
+pub length-zeros : length zeros ≡ longest-frame
 unfolding zeros
-length-zeros = length-replicate 640 (pos 0)
+length-zeros = length-replicate longest-frame (pos 0)
 
 -- one more element of w is laid over z
 pub lay-more : (w z : List ℤ) (j : ℕ) (x : ℤ) → j < length w → j < length z → x ≡ getD w j (pos 0)
@@ -49,12 +50,6 @@ pub padded-front : (w : List ℤ) (n : ℕ) → length w ≡ n → take n (padde
 unfolding padded
 padded-front w n e = take-at w (drop (length w) zeros) n e
 
-pub length-padded : (w : List ℤ) → length w ≤ 640 → length (padded w) ≡ 640
+pub length-padded : (w : List ℤ) → length w ≤ longest-frame → length (padded w) ≡ longest-frame
 unfolding padded
 length-padded w h = simp (length-append, length-drop) (omega (arith, length-zeros))
-
--- v is written over the front of what follows a
-pub put-at : (a v d : List ℤ) (i : ℕ) → length a ≡ i → length v ≤ length d → sets (a ++ d) i v ≡ a ++ (v ++ drop (length v) d)
-put-at a v d i e h =
-    sets-eq v (a ++ d) i (rw length-append (omega arith))
-    ∙ rw (take-at a d i e, ← drop-drop (length v) i (a ++ d), drop-at a d i e, append-assoc) refl

@@ -1,144 +1,49 @@
 // A pitch track that is fed by deliveries of samples: start and deliver.
 ghost use mathlib.Core.Path.{_≡_};
 ghost use mathlib.Core.List.{[], _∷_, _++_};
-ghost use Prim.Native.Nat.{_+_, _*_, _/_, _<_, _≤_};
-ghost use lib.Dec.{ltb, leb};
+ghost use Prim.Native.Nat.{_+_, _*_, _<_, _≤_};
 ghost use lib.ListN.{length, take, drop, getD};
 ghost use lib.IntN.{pos};
-ghost use Rattle.pitch_settings.specs.Settings.{settings-no, frame-length, hop-length};
-ghost use Rattle.silk_pitch_analysis.specs.declared.RowAnswer.the-variants.{Analysed};
-ghost use Rattle.pitch_track.specs.Paper.{frame-count, F, next-row, after, previous, paper-numbers};
-ghost use Rattle.pitch_track.specs.Step.{padded, start-call, first-refusal, delivery-refusal, delivery-no, frames-after, deliver-call, delivery-outcome, answer-no, track-answer-numbers};
 ghost use Rattle.answers.specs.Answer.{answer-numbers};
+ghost use Rattle.pitch_settings.specs.Settings.{settings-no, frame-length, longest-frame, hop-length};
 ghost use Rattle.pitch_table.specs.Row.{row-size};
+ghost use Rattle.silk_pitch_analysis.specs.declared.RowAnswer.the-variants.{Analysed};
+ghost use Rattle.track_paper.specs.Paper.{frame-count, track-answer-numbers, next-row, after, previous, paper-numbers};
+ghost use Rattle.pitch_track.specs.Step.{padded, start-call, delivery-no, frames-after, deliver-call, delivery-outcome};
+use pitch_settings::LONGEST_FRAME;
 use pitch_settings::Settings;
 use pitch_settings::frame_length;
 use pitch_settings::hop_length;
 use pitch_settings::settings_no;
-use pitch_table::ROW_SIZE;
 use pitch_table::Row;
 use pitch_table::put_row;
 use silk_pitch_analysis::RowAnswer;
 use silk_pitch_analysis::frame_row;
+use track_paper::Prev;
+use track_paper::TrackAnswer;
+use track_paper::track_limit;
+use track_refusal::delivery_refusal;
+use track_refusal::frames_in;
 
-// The lag of a row's last subframe and its correlation.
-pub struct Prev {
-    pub lag: i32,
-    pub correlation: i32,
-}
-
+// A track's state: its settings, the frames done, the samples held after the last frame's start (the first `count` places of `held`), and what the last row left to the next.
 pub struct Track {
     pub settings: Settings,
     pub frames: usize,
-    pub held: [i16; 640],
+    pub held: [i16; LONGEST_FRAME],
     pub count: usize,
-    pub lag: i32,
-    pub correlation: i32,
+    pub prev: Prev,
 }
 
-pub enum Answer {
-    Accepted(usize),
-    Refused(usize),
-}
-
+// What a start says, and the track that it makes.
 pub struct Started {
-    pub answer: Answer,
+    pub answer: TrackAnswer,
     pub track: Track,
 }
 
+// What a delivery says, and the track after it.
 pub struct Delivered {
-    pub answer: Answer,
+    pub answer: TrackAnswer,
     pub track: Track,
-}
-
-fn frames_in(len: usize, hop: usize, n: usize) -> usize
-    requires { ⌜ (0 < hop) × (hop ≤ len) ⌝ }
-    ensures { λ r. ⌜ r ≡ frame-count len hop n ⌝ }
-{
-    if n < len {
-        return 0;
-    }
-    1 + (n - len) / hop
-}
-
-// The order of the refusals, or 0: `wrong` is the settings' number, `long` stands for 6 and `full` for 9; 7 comes where there are new frames and the table is short.
-fn first_no(wrong: usize, long: bool, full: bool, new: bool, short: bool) -> usize
-    ensures { λ r. ⌜ r ≡ first-refusal wrong long full new short ⌝ }
-{
-    if wrong != 0 {
-        return wrong;
-    }
-    if long {
-        return 6;
-    }
-    if full {
-        return 9;
-    }
-    if new & short {
-        return 7;
-    }
-    0
-}
-
-// Whether d samples more make over 4,096 frames.
-fn is_long(s: Settings, frames: usize, count: usize, d: usize) -> bool
-    requires { ⌜ (settings-no s ≡ 0) × (d < 4611686018427387904) ⌝ }
-    ensures { λ r. ⌜ r ≡ ltb 4096 (frames + F s (count + d)) ⌝ }
-{
-    if frames > 4096 {
-        return true;
-    }
-    if count > 4611686018427387904 {
-        return true;
-    }
-    let len = frame_length(s);
-    let hop = hop_length(s);
-    let new = frames_in(len, hop, count + d);
-    if new > 4096 - frames {
-        return true;
-    }
-    false
-}
-
-// Whether a state holds N samples or more.
-fn is_full(s: Settings, count: usize) -> bool
-    requires { ⌜ settings-no s ≡ 0 ⌝ }
-    ensures { λ r. ⌜ r ≡ leb (frame-length s) count ⌝ }
-{
-    if count >= frame_length(s) {
-        return true;
-    }
-    false
-}
-
-// Whether a table has fewer whole rows than frames.
-fn is_short(frames: usize, numbers: usize) -> bool
-    ensures { λ r. ⌜ r ≡ ltb (numbers / row-size) frames ⌝ }
-{
-    if frames > numbers / ROW_SIZE {
-        return true;
-    }
-    false
-}
-
-// The refusal of a delivery, or 0.
-fn refusal(s: Settings, frames: usize, count: usize, d: usize, numbers: usize) -> usize
-    requires { ⌜ d < 4611686018427387904 ⌝ }
-    ensures { λ r. ⌜ r ≡ delivery-refusal s frames count d numbers ⌝ }
-{
-    let wrong = settings_no(s);
-    if wrong != 0 {
-        return first_no(wrong, false, false, false, false);
-    }
-    let full = is_full(s, count);
-    if is_long(s, frames, count, d) {
-        return first_no(0, true, full, false, false);
-    }
-    let len = frame_length(s);
-    let hop = hop_length(s);
-    let new = frames_in(len, hop, count + d);
-    let short = is_short(frames + new, numbers);
-    first_no(0, false, full, new > 0, short)
 }
 
 // What a row leaves to the next.
@@ -166,11 +71,17 @@ fn sample_at(held: &[i16], count: usize, samples: &[i16], p: usize) -> i16
 }
 
 // The `size` samples from `from` on, of those held and then those delivered; the other places are 0.
-fn gather(held: &[i16], count: usize, samples: &[i16], from: usize, size: usize) -> [i16; 640]
-    requires { ⌜ (count ≤ length (now held)) × (from + size ≤ count + length (now samples)) × (size ≤ 640) ⌝ }
+fn gather(
+    held: &[i16],
+    count: usize,
+    samples: &[i16],
+    from: usize,
+    size: usize,
+) -> [i16; LONGEST_FRAME]
+    requires { ⌜ (count ≤ length (now held)) × (from + size ≤ count + length (now samples)) × (size ≤ longest-frame) ⌝ }
     ensures { λ r. ⌜ r ≡ padded (take size (drop from (take count (now (held .entry)) ++ now (samples .entry)))) ⌝ }
 {
-    let mut out = [0i16; 640];
+    let mut out = [0i16; LONGEST_FRAME];
     let mut j = 0;
     while j < size {
         let x = sample_at(held, count, samples, from + j);
@@ -238,28 +149,34 @@ fn put_rows(
 }
 
 impl Track {
+    // A fresh track of these settings, or refusals 1 to 3.
     pub fn start(s: Settings) -> Started
         ensures { λ r. ⌜ r ≡ start-call s ⌝ }
         ensures { λ r. ⌜ track-answer-numbers (r .answer) ≡ answer-numbers (settings-no s) (pos 0 ∷ []) ⌝ }
     {
         let no = settings_no(s);
         let answer = if no == 0 {
-            Answer::Accepted(0)
+            TrackAnswer::Accepted(0)
         } else {
-            Answer::Refused(no)
+            TrackAnswer::Refused(no)
         };
-        let zeros = [0i16; 640];
+        let zeros = [0i16; LONGEST_FRAME];
+        let prev = Prev {
+            lag: 0,
+            correlation: 0,
+        };
         let track = Track {
             settings: s,
             frames: 0,
             held: zeros,
             count: 0,
-            lag: 0,
-            correlation: 0,
+            prev,
         };
         Started { answer, track }
     }
 
+    // Takes a delivery of samples, writes the row of each frame that it finishes into the table, and hands back the advanced track; refused with 1 to 3, 6, 9 or 7, in this order, it changes
+    // nothing.
     pub fn deliver(mut self, samples: &[i16], table: &mut [i32]) -> Delivered
         ensures { λ r. ⌜ delivery-outcome r (now (table .exit)) ≡ deliver-call self (now (table .entry)) (now (samples .entry)) ⌝ }
         ensures { λ r. ⌜ track-answer-numbers (r .answer) ≡ answer-numbers (delivery-no self (now (table .entry)) (now (samples .entry))) (pos (frames-after self (now (samples .entry))) ∷ []) ⌝ }
@@ -267,9 +184,10 @@ impl Track {
         let s = self.settings;
         let frames = self.frames;
         let count = self.count;
-        let no = refusal(s, frames, count, samples.len(), table.len());
+        let limit = track_limit();
+        let no = delivery_refusal(limit, s, frames, count, samples.len(), table.len());
         if no != 0 {
-            let answer = Answer::Refused(no);
+            let answer = TrackAnswer::Refused(no);
             return Delivered {
                 answer,
                 track: self,
@@ -280,10 +198,7 @@ impl Track {
         let n = count + samples.len();
         let new = frames_in(len, hop, n);
         let held = self.held;
-        let p = Prev {
-            lag: self.lag,
-            correlation: self.correlation,
-        };
+        let p = self.prev;
         let q = put_rows(s, &held, count, samples, table, frames, new, p);
         let from = new * hop;
         let left = n - from;
@@ -292,24 +207,11 @@ impl Track {
         self.frames = done;
         self.held = rest;
         self.count = left;
-        let lag = q.lag;
-        let correlation = q.correlation;
-        self.lag = lag;
-        self.correlation = correlation;
-        let answer = Answer::Accepted(done);
+        self.prev = q;
+        let answer = TrackAnswer::Accepted(done);
         Delivered {
             answer,
             track: self,
         }
-    }
-}
-
-// An answer as one number: 0, or the refusal's.
-pub fn number(a: Answer) -> usize
-    ensures { λ r. ⌜ r ≡ answer-no a ⌝ }
-{
-    match a {
-        Answer::Accepted(_) => 0,
-        Answer::Refused(n) => n,
     }
 }

@@ -8,7 +8,7 @@ use Rattle.pitch_settings.specs.Settings.{rate-known, subframes-known, settings
 use Rattle.pitch_input.specs.Input.{input-settings, samples-from}
 use Rattle.pitch_text.specs.Decimal.{digits-to, digits}
 use Rattle.pitch_text.specs.Text.{refused-text}
-use Rattle.pitch_track.specs.Paper.{frame-count}
+use Rattle.track_paper.specs.Paper.{frame-count}
 use Rattle.sheet_bytes.specs.Bytes.{low-bytes, number, number-at, word, signed, signed-at}
 use Rattle.sheet_sections.specs.Sheet.{entries, setting-entries, joined, section, sheet}
 use Rattle.track_text.specs.Program.{samples-in, half-input, first-program-refusal, program-no}

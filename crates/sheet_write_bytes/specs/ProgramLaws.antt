@@ -15,10 +15,10 @@ use Rattle.pitch_input.specs.Input.{input-settings}
 use Rattle.pitch_settings.specs.declared.Settings.{Settings}
 use Rattle.pitch_settings.specs.Settings.{settings-no}
 use Rattle.pitch_text.specs.Text.{refused-text}
-use Rattle.pitch_track.specs.Paper.{F, paper-no, joined-by, joined-samples, no-previous, paper-row, paper-table}
+use Rattle.track_paper.specs.Paper.{F, track-limit, paper-no, joined-by, joined-samples, no-previous, paper-row, paper-table}
 use Rattle.pitch_track.specs.Step.{start-call, deliver-call, DeliveryOutcome}
-use Rattle.track_run.specs.Chain.{Left, chain, final-samples}
-use Rattle.track_run.proofs.OnPaper.{equation}
+use Rattle.track_chain.specs.Chain.{Left, chain, final-samples}
+use Rattle.track_chain.proofs.OnPaper.{equation}
 use Rattle.sheet_sections.specs.declared.Section.the-variants.{Pairs}
 use Rattle.sheet_sections.specs.Sheet.{sheet-length}
 use Rattle.sheet_sections.specs.SheetLaws.{length-sheet, entries-le}
@@ -43,11 +43,11 @@ written-sheet b e = rw (eq-eqb (program-no b) 0 e)
 
 -- ---- start, deliver, write: a recording that the track on paper accepts, and a page that has room for its sheet
 
-module _ (s : Settings) (t x : List ℤ) (page : List ℕ) (h : settings-no s ≡ 0) (taken : paper-no s (length t / row-size) [] x ≡ 0) (room : length (paper-sheet s x) ≤ length page) (d : DeliveryOutcome)
+module _ (s : Settings) (t x : List ℤ) (page : List ℕ) (h : settings-no s ≡ 0) (taken : paper-no track-limit s (length t / row-size) [] x ≡ 0) (room : length (paper-sheet s x) ≤ length page) (d : DeliveryOutcome)
     (e : d ≡ deliver-call (start-call s .track) t x) where
   whole : final-samples s t (x ∷ []) ≡ x
   unfolding joined-samples joined-by
-  whole = rw (eq-eqb (paper-no s (length t / row-size) [] x) 0 taken)
+  whole = rw (eq-eqb (paper-no track-limit s (length t / row-size) [] x) 0 taken)
 
   -- the rows are in the table
   pub rows-left : d .table ≡ paper-table s t x
@@ -85,7 +85,7 @@ module _ (s : Settings) (x : List ℤ) (few : F s (length x) ≤ 1024) where
   small-sheet = omega (arith, length-sheet s (paper-rows s x), entries-le Pairs (paper-rows s x), length-tabulate (paper-row s x no-previous) (F s (length x)))
 
   -- the paper accepts it, with a table of 1,024 rows
-  pub few-taken : (t : List ℤ) → 8192 ≤ length t → paper-no s (length t / row-size) [] x ≡ 0
+  pub few-taken : (t : List ℤ) → 8192 ≤ length t → paper-no track-limit s (length t / row-size) [] x ≡ 0
   unfolding paper-no
   few-taken t rows =
       let a : F s (length x) ≤ 4096 = omega arith in

@@ -5,7 +5,7 @@ ghost use Prim.Native.Nat.{ℕ, _/_, _<_, _≤_};
 ghost use lib.ListN.{length};
 ghost use Rattle.lists.specs.Fill.{overwritten};
 ghost use Rattle.pitch_settings.specs.Settings.{settings-no};
-ghost use Rattle.pitch_track.specs.Paper.{paper-no, paper-table};
+ghost use Rattle.track_paper.specs.Paper.{track-limit, paper-no, paper-table};
 ghost use Rattle.track_text.specs.Program.{track-printed};
 ghost use Rattle.track_sheet.specs.Accepted.{paper-sheet};
 ghost use Rattle.sheet_write_bytes.specs.Program.{sheet-bytes-call};
@@ -21,7 +21,7 @@ use track_text::program_no;
 
 // The sheet of the samples x, in the first bytes of `out`, and its rows in the table; how many bytes it has. A track is started, fed and written: the writing takes what the delivery took.
 fn put_track(s: Settings, x: &[i16], table: &mut [i32], out: &mut [u8]) -> usize
-    requires { ⌜ (settings-no s ≡ 0) × (paper-no s (length (now table) / row-size) [] (now x) ≡ 0) × (length (paper-sheet s (now x)) ≤ length (now out)) ⌝ }
+    requires { ⌜ (settings-no s ≡ 0) × (paper-no track-limit s (length (now table) / row-size) [] (now x) ≡ 0) × (length (paper-sheet s (now x)) ≤ length (now out)) ⌝ }
     ensures { λ r. ⌜ (r ≡ length (paper-sheet s (now (x .entry)))) × (now (out .exit) ≡ overwritten (paper-sheet s (now (x .entry))) (now (out .entry))) × (now (table .exit) ≡ paper-table s (now (table .entry)) (now (x .entry))) ⌝ }
 {
     let started = Track::start(s);

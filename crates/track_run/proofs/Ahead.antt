@@ -15,14 +15,15 @@ use Rattle.pitch_track.specs.declared.Track.{Track}
 use Rattle.pitch_track.specs.declared.Delivered.{Delivered}
 use Rattle.track_run.specs.declared.Ran.{Ran}
 use Rattle.pitch_settings.specs.Settings.{settings-no}
-use Rattle.pitch_track.specs.Paper.{frames-done}
-use Rattle.pitch_track.specs.Step.{DeliveryOutcome, delivery-outcome, start-call, deliver-call, answer-no}
-use Rattle.track_run.specs.Chain.{Left, then, chain, run-from-start, final-samples, answer-nos, accepted-samples, parts, Ended, deliveries, run-outcome, run-call, EndsOnPaper}
-use Rattle.pitch_track.proofs.Frames.{lt-or-le}
-use Rattle.pitch_track.proofs.Rows.{row-read}
+use Rattle.track_paper.specs.Paper.{answer-no, frames-done}
+use Rattle.pitch_track.specs.Step.{DeliveryOutcome, delivery-outcome, start-call, deliver-call}
+use Rattle.track_chain.specs.Chain.{Left, then, chain, run-from-start, final-samples, answer-nos, accepted-samples, Ended}
+use Rattle.track_run.specs.Run.{parts, deliveries, run-outcome, run-call, EndsOnPaper}
+use Rattle.track_paper.specs.FramesLaws.{lt-or-le}
+use Rattle.track_paper.specs.RowsLaws.{row-read}
 use Rattle.pitch_table.specs.Row.{row-size}
-use Rattle.track_run.proofs.Words.{rows-say}
-use Rattle.track_run.proofs.OnPaper.{on-paper, equation, same-rows}
+use Rattle.track_chain.proofs.MeaningOfRows.{rows-say}
+use Rattle.track_chain.proofs.OnPaper.{on-paper, equation, same-rows}
 
 -- the whole chain leaves what its rest leaves, with the i answers that are there before it
 pub record Ahead (a : Left) (said : List ℕ) (i : ℕ) (b : Left) : Type 0 where

@@ -1,4 +1,2 @@
--- The laws of a run: `OnPaper` the claim over a list of deliveries, `Words` what each row says, `Ahead` what a run leaves.
-pub mod OnPaper
-pub mod Words
+-- The laws of a run: what is left of it while it goes on, and what it has left at its end.
 pub mod Ahead

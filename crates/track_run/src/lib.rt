@@ -6,16 +6,17 @@ ghost use lib.IntN.{pos};
 ghost use lib.ListN.{length};
 ghost use Rattle.answers.specs.Answer.{answer-numbers};
 ghost use Rattle.pitch_settings.specs.Settings.{settings-no};
-ghost use Rattle.pitch_track.specs.Step.{track-answer-numbers};
-ghost use Rattle.track_run.specs.Chain.{answer-nos, chain, parts, deliveries, run-outcome, run-call, EndsOnPaper};
+ghost use Rattle.track_paper.specs.Paper.{track-answer-numbers};
+ghost use Rattle.track_chain.specs.Chain.{answer-nos, chain};
+ghost use Rattle.track_run.specs.Run.{parts, deliveries, run-outcome, run-call, EndsOnPaper};
 use pitch_settings::Settings;
-use pitch_track::Answer;
 use pitch_track::Track;
-use pitch_track::number;
+use track_paper::TrackAnswer;
+use track_paper::answer_number;
 
 // What a whole run says: the answer of its start, and the track at its end.
 pub struct Ran {
-    pub answer: Answer,
+    pub answer: TrackAnswer,
     pub track: Track,
 }
 
@@ -51,7 +52,7 @@ fn deliver_parts(
         let next = d.track;
         track = next;
         let a = d.answer;
-        said[i] = number(a);
+        said[i] = answer_number(a);
         at = end;
         i += 1;
     }
@@ -74,7 +75,7 @@ pub fn run(
     let started = Track::start(s);
     let answer = started.answer;
     let track = started.track;
-    if number(answer) != 0 {
+    if answer_number(answer) != 0 {
         return Ran { answer, track };
     }
     let n = lesser(said.len(), cuts.len());

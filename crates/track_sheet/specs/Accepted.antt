@@ -9,8 +9,8 @@ use mir.Val.{SFits}
 use Rattle.lists.specs.Fill.{tabulate}
 use Rattle.pitch_settings.specs.declared.Settings.{Settings}
 use Rattle.pitch_table.specs.declared.Row.{Row}
-use Rattle.pitch_track.specs.Paper.{no-previous, paper-row, paper-numbers, frames-done}
-use Rattle.track_run.specs.Chain.{run-from-start, final-samples}
+use Rattle.track_paper.specs.Paper.{no-previous, paper-row, paper-numbers, frames-done}
+use Rattle.track_chain.specs.Chain.{run-from-start, final-samples}
 use Rattle.sheet_sections.specs.Sheet.{sheet, sheet-length}
 use Rattle.pitch_sheet.specs.declared.Wrote.the-variants.{Written}
 use Rattle.pitch_sheet.specs.declared.Got.the-variants.{Read}

@@ -18,11 +18,11 @@ use Rattle.pitch_settings.specs.declared.Settings.{Settings}
 use Rattle.pitch_settings.specs.Settings.{settings-no, frame-length, hop-length}
 use Rattle.pitch_settings.specs.SettingsLaws.{accepted-settings}
 use Rattle.pitch_table.specs.Row.{row-size, numbers, row-at}
-use Rattle.pitch_track.specs.Paper.{F, no-previous, window, previous, paper-row, paper-numbers, paper-no, joined-by, joined-samples, frames-done}
-use Rattle.track_run.specs.Chain.{run-from-start, final-samples}
-use Rattle.pitch_track.proofs.Frames.{lt-or-le, short, fits}
-use Rattle.pitch_track.proofs.Rows.{row-read}
-use Rattle.track_run.proofs.OnPaper.{Reached, on-paper}
+use Rattle.track_paper.specs.Paper.{F, no-previous, window, previous, paper-row, paper-numbers, paper-no, joined-by, joined-samples, frames-done}
+use Rattle.track_chain.specs.Chain.{run-from-start, final-samples}
+use Rattle.track_paper.specs.FramesLaws.{lt-or-le, short, fits}
+use Rattle.track_paper.specs.RowsLaws.{row-read}
+use Rattle.track_chain.proofs.OnPaper.{reached, on-paper}
 use Rattle.sheet_rows.specs.Rows.{row-holds}
 use Rattle.sheet_sections.specs.Sheet.{sheet, sheet-length, rows-of}
 use Rattle.sheet_page.specs.Page.{numbers-of}
@@ -35,30 +35,6 @@ use Rattle.pitch_sheet.specs.Holds.{no-row, Holds}
 use Rattle.pitch_sheet.specs.RoundTripLaws.{round-trip}
 use Rattle.track_sheet.specs.Accepted.{paper-rows, paper-sheet, left-no, WrittenOn, AcceptedByWrite}
 use Rattle.track_sheet.specs.RowLaws.{frame-holds, frame-correlation}
-
--- ---- the frames of the accepted samples are within the limit and the table
-
-module _ (s : Settings) (t : List ℤ) where
-  -- one delivery
-  reach : (j d : List ℤ) → Reached s t j → Reached s t (joined-by s (length t / row-size) j d)
-  unfolding joined-by paper-no
-  reach j d r =
-      by (ltb 4096 (F s (length j + length d))) (ltb (F s (length j)) (F s (length j + length d))) (ltb (length t / row-size) (F s (length j + length d))) refl refl refl
-    where
-      grown : F s (length j + length d) ≤ 4096 → F s (length j + length d) * row-size ≤ length t → Reached s t (j ++ d)
-      grown few fit = let e = ap (F s) (length-append j d) in record { few = omega (arith, e); fit = omega (arith, e) }
-
-      by : (a b c : Bool) → ltb 4096 (F s (length j + length d)) ≡ a → ltb (F s (length j)) (F s (length j + length d)) ≡ b → ltb (length t / row-size) (F s (length j + length d)) ≡ c
-          → Reached s t (cond (eqb (cond a 6 (cond b (cond c 7 0) 0)) 0) (j ++ d) j)
-      by true b c p q u = r
-      by false true true p q u = r
-      by false true false p q u = grown (ltb-false 4096 (F s (length j + length d)) p) (omega (arith, ltb-false (length t / row-size) (F s (length j + length d)) u))
-      by false false c p q u = grown (ltb-false 4096 (F s (length j + length d)) p) (omega (arith, ltb-false (F s (length j)) (F s (length j + length d)) q, r .fit))
-
-  reach-all : (ds : List (List ℤ)) (j : List ℤ) → Reached s t j → Reached s t (joined-samples s (length t / row-size) j ds)
-  unfolding joined-samples
-  reach-all [] j r = r
-  reach-all (d ∷ ds) j r = reach-all ds (joined-by s (length t / row-size) j d) (reach j d r)
 
 -- ---- the rows on paper
 
@@ -129,17 +105,11 @@ module _ (s : Settings) (h : settings-no s ≡ 0) (t : List ℤ) (ds : List (Lis
   done : frames ≡ frames-done s J
   done = on-paper s h t ds .frames
 
-  reached : Reached s t J
-  reached =
-      let a = accepted-settings s h in
-      let e = short (frame-length s) (hop-length s) 0 (omega (arith, a .some, a .within)) in
-      reach-all s t ds [] (record { few = omega (arith, e); fit = omega (arith, e) })
-
   few : frames ≤ 4096
-  few = omega (arith, done, reached .few)
+  few = omega (arith, done, reached s h t ds .few)
 
   whole : frames ≤ whole-rows left
-  whole = let m : length left ≡ length t = on-paper s h t ds .size in omega (arith, done, reached .fit)
+  whole = let m : length left ≡ length t = on-paper s h t ds .size in omega (arith, done, reached s h t ds .fit)
 
   row-left : (i : ℕ) → i < frames → row-at left i ≡ paper-row s J no-previous i
   row-left i l = row-read left i (paper-row s J no-previous i) (on-paper s h t ds .rows i (omega (arith, done)))
@@ -168,7 +138,7 @@ module _ (s : Settings) (h : settings-no s ≡ 0) (t : List ℤ) (ds : List (Lis
 
   longest : length (paper-sheet s J) ≤ sheet-length 4096 4096
   unfolding paper-sheet
-  longest = round-trip .longest s (paper-rows s J) (omega (arith, count s h J, reached .few))
+  longest = round-trip .longest s (paper-rows s J) (omega (arith, count s h J, reached s h t ds .few))
 
   reads-back : SFits w32 (s .thres1) → SFits w32 (s .thres2) → (page : List ℕ) → length (paper-sheet s J) ≤ length page → (into : List ℤ) → frames-done s J ≤ whole-rows into
       → read-call (take (length (paper-sheet s J)) (write-call s frames left page .page)) into ≡ got (Read s (frames-done s J)) (paper-numbers s J no-previous (frames-done s J) ++ drop (frames-done s J * row-size) into)
@@ -176,7 +146,7 @@ module _ (s : Settings) (h : settings-no s ≡ 0) (t : List ℤ) (ds : List (Lis
       let bytes = paper-sheet s J in
       ap (λ (o : WriteOutcome). read-call (take (length bytes) (o .page)) into) (written page l)
       ∙ ap (λ (p : List ℕ). read-call p into) (take-at bytes (drop (length bytes) page) (length bytes) refl)
-      ∙ paper-reads s h J into a b (reached .few) g
+      ∙ paper-reads s h J into a b (reached s h t ds .few) g
 
   pub accepted-by-write : AcceptedByWrite s t ds
   unfolding sheet-length

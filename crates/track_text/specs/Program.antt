@@ -10,7 +10,7 @@ use Rattle.lists.specs.Fill.{overwritten}
 use Rattle.pitch_input.specs.Input.{input-settings, samples-from}
 use Rattle.pitch_settings.specs.declared.Settings.{Settings}
 use Rattle.pitch_settings.specs.Settings.{settings-no, frame-length, hop-length}
-use Rattle.pitch_track.specs.Paper.{F, paper-row, no-previous, paper-table}
+use Rattle.track_paper.specs.Paper.{F, paper-row, no-previous, paper-table}
 use Rattle.pitch_text.specs.Decimal.{digits}
 use Rattle.pitch_text.specs.Text.{lines-text, refused-text}
 

@@ -12,7 +12,7 @@ use Rattle.pitch_settings.specs.Settings.{rate-known, subframes-known, settings
 use Rattle.pitch_input.specs.Input.{input-settings, sample-at, samples-from}
 use Rattle.pitch_text.specs.Decimal.{digits-to, digits}
 use Rattle.pitch_text.specs.Text.{lines-text, refused-text}
-use Rattle.pitch_track.specs.Paper.{frame-count, paper-numbers, paper-table}
+use Rattle.track_paper.specs.Paper.{frame-count, paper-numbers, paper-table}
 use Rattle.track_text.specs.Program.{samples-in, half-input, first-program-refusal, program-no, samples-left, track-head, track-report, track-text, TrackPrinted, track-printed, samples-after, track-table-after, answered, track-text-call}
 
 abbrev settings : ℕ → ℕ → ℕ → Settings

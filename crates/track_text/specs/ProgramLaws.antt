@@ -17,10 +17,11 @@ use Rattle.pitch_settings.specs.declared.Settings.{Settings}
 use Rattle.pitch_settings.specs.Settings.{settings-no, frame-length, hop-length}
 use Rattle.pitch_settings.specs.SettingsLaws.{accepted-settings}
 use Rattle.pitch_table.specs.Row.{row-size, row-at}
-use Rattle.pitch_track.specs.Paper.{F, no-previous, paper-row, paper-numbers, paper-table}
-use Rattle.pitch_track.specs.Step.{start-call, fresh-track, delivery-refusal, delivery-no, pending, accepted-delivery, deliver-call, DeliveryOutcome}
-use Rattle.pitch_track.proofs.Frames.{lt-or-le, fits, many}
-use Rattle.pitch_track.proofs.Rows.{row-in, row-read}
+use Rattle.track_paper.specs.Paper.{F, no-previous, paper-row, paper-numbers, paper-table}
+use Rattle.pitch_track.specs.Step.{start-call, fresh-track, delivery-no, pending, accepted-delivery, deliver-call, DeliveryOutcome}
+use Rattle.track_paper.specs.FramesLaws.{lt-or-le, fits, many}
+use Rattle.track_paper.specs.RowsLaws.{row-in, row-read}
+use Rattle.track_refusal.specs.Refusal.{delivery-refusal}
 use Rattle.pitch_track.proofs.Deliver.{accepts}
 use Rattle.pitch_text.specs.Text.{refused-text}
 use Rattle.track_text.specs.Program.{Tracked, samples-in, half-input, first-program-refusal, program-no, samples-left, track-report, track-text, track-printed, samples-after, track-table-after, answered}

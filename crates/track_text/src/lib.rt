@@ -5,7 +5,7 @@ ghost use Prim.Native.Nat.{ℕ, _+_, _<_, _≤_};
 ghost use lib.Dec.{ltb};
 ghost use lib.ListN.{length};
 ghost use Rattle.pitch_settings.specs.Settings.{settings-no};
-ghost use Rattle.pitch_track.specs.Paper.{F, paper-table};
+ghost use Rattle.track_paper.specs.Paper.{F, paper-table};
 ghost use Rattle.pitch_text.specs.Text.{Put};
 ghost use Rattle.track_text.specs.Program.{first-program-refusal, program-no, samples-left, track-head, track-report, track-printed, track-text-call, Tracked};
 use pitch_input::load_samples;

@@ -1,6 +1,6 @@
 -- `pitch_track::left_by` meets its contract: the test says which case of `after` holds.
 use borrow.Author.Tests.{eq-eqb, ne-eqb}
-use Rattle.pitch_track.specs.Paper.{after}
+use Rattle.track_paper.specs.Paper.{after}
 use mir.Syntax.{w32}
 use Rattle.zint.specs.ReadLaws.{r-elem}
 use Rattle.pitch_track.proofs.left_by.Statement.{statement}

@@ -5,7 +5,7 @@ use lib.Seq.{sets}
 use Rattle.pitch_table.specs.declared.Row.{Row}
 use Rattle.pitch_table.specs.Row.{row-size, numbers}
 use Rattle.silk_pitch_analysis.specs.FrameLaws.{one-row, no-refusal}
-use Rattle.pitch_track.specs.Paper.{after, paper-row}
+use Rattle.track_paper.specs.Paper.{after, paper-row}
 use borrow.Author.Needs.{needs}
 use mathlib.Core.Path.{_≡_, refl, sym, ap, _∙_}
 use mathlib.Core.List.{List, _++_}
@@ -14,10 +14,10 @@ use native.Mathlib.Omega.{arith}
 use lib.IntN.{ℤ}
 use lib.ListN.{length, take, drop}
 use Rattle.pitch_settings.specs.Settings.{frame-length, hop-length}
-use Rattle.pitch_track.specs.Paper.{previous, paper-numbers}
+use Rattle.track_paper.specs.Paper.{previous, paper-numbers}
 use Rattle.pitch_settings.specs.SettingsLaws.{accepted-settings}
-use Rattle.pitch_track.proofs.Frames.{fits}
-use Rattle.pitch_track.proofs.Rows.{written, length-written, write-none, write-more, row-is, before-suc}
+use Rattle.track_paper.specs.FramesLaws.{fits}
+use Rattle.track_paper.specs.RowsLaws.{written, length-written, write-none, write-more, row-is, before-suc}
 use Rattle.pitch_track.proofs.put_rows.Statement.{statement}
 use Rattle.pitch_track.proofs.put_rows.Tie as tie
 

@@ -9,7 +9,7 @@ use lib.Seq.{length-take-le}
 use Rattle.lists.specs.Fill.{overwritten}
 use Rattle.pitch_settings.specs.Settings.{settings-no}
 use Rattle.pitch_input.specs.InputLaws.{loaded, loaded-over}
-use Rattle.pitch_track.specs.Paper.{F, paper-table}
+use Rattle.track_paper.specs.Paper.{F, paper-table}
 use Rattle.pitch_text.specs.TextLaws.{put-as, put-count, put-over}
 use Rattle.track_text.specs.Program.{samples-in, program-no}
 use Rattle.track_text.specs.ProgramLaws.{Ready, at-hand, small-number, few-samples, samples-count, none-after, answer-refused, answer-taken}

@@ -7,7 +7,8 @@ use native.Mathlib.Omega.{arith}
 use lib.IntN.{ℤ}
 use lib.ListN.{length, take, drop, getD, length-set, length-drop}
 use lib.Seq.{drop-drop}
-use Rattle.track_run.specs.Chain.{Left, chain, parts}
+use Rattle.track_chain.specs.Chain.{Left, chain}
+use Rattle.track_run.specs.Run.{parts}
 use Rattle.track_run.proofs.Ahead.{Ahead, ahead-none, ahead-all, chain-none, turn, take-min, drop-min}
 use Rattle.track_run.proofs.deliver_parts.Statement.{statement}
 use Rattle.track_run.proofs.deliver_parts.Tie as tie
@@ -94,10 +95,10 @@ loop-again c =
       omega arith,
       omega (arith, within k),
       d .kept .1 .1 .0 ∙ l .inv .2,
-      length-set (l .said) (l .i) (c .number .result) ∙ l .inv .3,
-      turn _ (a .cuts .now) (l .i) (l .track) (l .table) (rest k) _ _ (l .said) (c .number .result) (d .result) (d .last .1 .1 .0)
+      length-set (l .said) (l .i) (c .answer-number .result) ∙ l .inv .3,
+      turn _ (a .cuts .now) (l .i) (l .track) (l .table) (rest k) _ _ (l .said) (c .answer-number .result) (d .result) (d .last .1 .1 .0)
           h (omega (arith, l .inv .3, start k .pre, h))
-          (part-is k) (rest-is k) (d .ensures .0) (c .number .ensures) (l .inv .4),
+          (part-is k) (rest-is k) (d .ensures .0) (c .answer-number .ensures) (l .inv .4),
     )
 
 same-length : tie.Need-same-length Inv-loop μ-loop

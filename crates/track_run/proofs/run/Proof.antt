@@ -9,25 +9,25 @@ use lib.ListN.{length, take, drop, length-append, length-drop}
 use lib.Seq.{length-take-le}
 use Rattle.pitch_settings.specs.Settings.{settings-no}
 use Rattle.pitch_track.specs.declared.Started.{Started}
-use Rattle.pitch_track.specs.declared.Answer.{Answer}
-use Rattle.pitch_track.specs.Step.{answer-no}
+use Rattle.track_paper.specs.Paper.{answer-no}
 use Rattle.pitch_track.proofs.Deliver.{start-number}
-use Rattle.track_run.specs.Chain.{Left, answer-nos, chain, parts, run-from-start, deliveries}
+use Rattle.track_chain.specs.Chain.{Left, answer-nos, chain, run-from-start}
+use Rattle.track_run.specs.Run.{parts, deliveries}
 use Rattle.track_run.proofs.Ahead.{take-min, made-parts, length-made, ran, ends, refused}
 use Rattle.track_run.proofs.run.Statement.{statement}
 use Rattle.track_run.proofs.run.Tie as tie
 
 -- the number that the start said
-number-is : (c : tie.After-number) → c .number .result ≡ settings-no (c .before .before .before .before .before .args .s)
+number-is : (c : tie.After-answer-number) → c .answer-number .result ≡ settings-no (c .before .before .before .before .before .args .s)
 number-is c =
     let s = c .before .before .before .before .before in
-    c .number .ensures ∙ ap (λ (r : Started). answer-no (r .answer)) (c .before .before .start .ensures .0) ∙ start-number (s .args .s)
+    c .answer-number .ensures ∙ ap (λ (r : Started). answer-no (r .answer)) (c .before .before .start .ensures .0) ∙ start-number (s .args .s)
 
 start-requires : tie.Need-start-requires
 start-requires c κs = search needs
 
-number-requires : tie.Need-number-requires
-number-requires c κs = search needs
+answer-number-requires : tie.Need-answer-number-requires
+answer-number-requires c κs = search needs
 
 returns : tie.Need-returns
 returns c =
@@ -112,4 +112,4 @@ returns-2 c =
     )
 
 pub run-spec : {M : Type 1} → statement M
-run-spec = tie.close (tie.spec start-requires number-requires returns lesser-requires slice-aggregate-deliver-parts slice-relend-prefix-deliver-parts slice-aggregate-deliver-parts-2 deliver-parts-requires same-length same-length-2 returns-2)
+run-spec = tie.close (tie.spec start-requires answer-number-requires returns lesser-requires slice-aggregate-deliver-parts slice-relend-prefix-deliver-parts slice-aggregate-deliver-parts-2 deliver-parts-requires same-length same-length-2 returns-2)

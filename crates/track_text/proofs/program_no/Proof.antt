@@ -6,7 +6,7 @@ use lib.Dec.{ltb, eqb}
 use lib.ListN.{length}
 use Rattle.pitch_settings.specs.declared.Settings.{Settings}
 use Rattle.pitch_settings.specs.Settings.{settings-no}
-use Rattle.pitch_track.specs.Paper.{F}
+use Rattle.track_paper.specs.Paper.{F}
 use Rattle.track_text.specs.Program.{first-program-refusal}
 use Rattle.pitch_input.specs.Input.{input-settings}
 use Rattle.track_text.specs.ProgramLaws.{no-short, no-wrong, no-more, no-all}

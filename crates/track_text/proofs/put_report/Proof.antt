@@ -4,7 +4,7 @@ use Prim.Native.Nat.{_≤_}
 use native.Mathlib.Omega.{arith}
 use lib.ListN.{length}
 use Rattle.pitch_settings.specs.SettingsLaws.{accepted-settings}
-use Rattle.pitch_track.specs.Paper.{paper-row, no-previous}
+use Rattle.track_paper.specs.Paper.{paper-row, no-previous}
 use Rattle.pitch_text.specs.Text.{lines-text}
 use Rattle.pitch_text.specs.TextLaws.{put-then, put-as, lines-same}
 use Rattle.track_text.specs.Program.{track-head, track-report}

@@ -4,7 +4,7 @@ use Prim.Native.Nat.{_+_, _-_, _*_, _≤_}
 use native.Mathlib.Omega.{arith}
 use borrow.Author.Tests.{eq-eqb, ne-eqb}
 use Rattle.pitch_settings.specs.Settings.{frame-length, hop-length}
-use Rattle.pitch_track.specs.Paper.{F}
+use Rattle.track_paper.specs.Paper.{F}
 use Rattle.track_text.specs.Program.{samples-left}
 use Rattle.track_text.specs.ProgramLaws.{last-frame}
 use borrow.Author.Needs.{needs}

@@ -8,7 +8,7 @@ use lib.Seq.{length-take-le}
 use Rattle.pitch_settings.specs.Settings.{settings-no}
 use Rattle.lists.specs.Fill.{overwritten}
 use Rattle.pitch_input.specs.InputLaws.{loaded, loaded-over}
-use Rattle.pitch_track.specs.Paper.{paper-table}
+use Rattle.track_paper.specs.Paper.{paper-table}
 use Rattle.pitch_text.specs.TextLaws.{put-as, put-count, put-over}
 use Rattle.track_text.specs.Program.{samples-in, program-no, track-report, answered, track-text-call}
 use Rattle.track_text.specs.ProgramLaws.{Ready, at-hand, small-number, few-samples, samples-count, none-after, text-refused, text-report, answer-refused, answer-taken}

@@ -2,7 +2,8 @@
 use mathlib.Core.Path.{sym, _∙_}
 use borrow.Author.Tests.{eq-eqb, ne-eqb}
 use Rattle.pitch_settings.specs.Settings.{settings-no}
-use Rattle.pitch_track.specs.Step.{start-call, fresh-track, answer-of, zeros}
+use Rattle.track_paper.specs.Paper.{answer-of}
+use Rattle.pitch_track.specs.Step.{start-call, fresh-track, zeros}
 use Rattle.pitch_track.proofs.Deliver.{started}
 use borrow.Author.Needs.{needs}
 use Rattle.pitch_track.proofs.Track.start.Statement.{statement}

@@ -1,0 +1,3 @@
+-- The refusals of a delivery. Definitions: `Refusal`; laws: `RefusalLaws`.
+pub mod Refusal
+pub mod RefusalLaws
