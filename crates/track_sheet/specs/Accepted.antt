@@ -15,38 +15,42 @@ use Rattle.sheet_sections.specs.Sheet.{sheet, sheet-length}
 use Rattle.pitch_sheet.specs.declared.Wrote.the-variants.{Written}
 use Rattle.pitch_sheet.specs.declared.Got.the-variants.{Read}
 use Rattle.pitch_sheet.specs.Calls.{whole-rows, write-no, wrote, write-call, got, read-call}
-use Rattle.pitch_table.specs.Row.{row-size}
+use Rattle.pitch_table.specs.Row.{row-size, most-frames}
+
+-- the settings that a track's sheet stores: those with which it was analysed
+unfoldable pub stored-settings : Settings → Settings
+stored-settings s = s
 
 -- the finished rows of the track on paper whose accepted samples are j, and their sheet
 unfoldable pub paper-rows : Settings → List ℤ → List Row
 paper-rows s j = tabulate (paper-row s j no-previous) (frames-done s j)
 
 unfoldable pub paper-sheet : Settings → List ℤ → List ℕ
-paper-sheet s j = sheet s (paper-rows s j)
+paper-sheet s j = sheet (stored-settings s) (paper-rows s j)
 
 -- the deliveries ds, from a fresh start, with the table t
 module _ (s : Settings) (t : List ℤ) (ds : List (List ℤ)) where
   -- the refusal of writing what they left on a page of `room` bytes, or 0; and the writing of it
   abbrev pub left-no : ℕ → ℕ
-  left-no room = write-no s (run-from-start s t ds .track .frames) (run-from-start s t ds .table) room
+  left-no room = write-no (stored-settings s) (run-from-start s t ds .track .frames) (run-from-start s t ds .table) room
 
   abbrev pub left-sheet : List ℕ
   left-sheet = paper-sheet s (final-samples s t ds)
 
   abbrev pub WrittenOn : List ℕ → Type 0
   WrittenOn page =
-      write-call s (run-from-start s t ds .track .frames) (run-from-start s t ds .table) page ≡ wrote (Written (length left-sheet)) (left-sheet ++ drop (length left-sheet) page)
+      write-call (stored-settings s) (run-from-start s t ds .track .frames) (run-from-start s t ds .table) page ≡ wrote (Written (length left-sheet)) (left-sheet ++ drop (length left-sheet) page)
 
   pub record AcceptedByWrite : Type 0 where
     -- nothing is refused but a page that is shorter than the sheet, with 8; so 9 is never said
     pub room-enough : (room : ℕ) → length left-sheet ≤ room → left-no room ≡ 0
     pub room-short : (room : ℕ) → room < length left-sheet → left-no room ≡ 8
     pub never-nine : (room : ℕ) → left-no room ≡ 9 → ⊥
-    -- what is written is the sheet of the track on paper; a page of 32,804 bytes, the longest sheet's, is never too short
+    -- what is written is the sheet of the track on paper; a page as long as the longest sheet is never too short
     pub written : (page : List ℕ) → length left-sheet ≤ length page → WrittenOn page
-    pub written-on-longest : (page : List ℕ) → sheet-length 4096 4096 ≤ length page → WrittenOn page
-    -- what was written reads back to the settings, the frames done and the rows of the track on paper, into any table that has the rows; a program's thresholds have 32 bits
+    pub written-on-longest : (page : List ℕ) → sheet-length most-frames most-frames ≤ length page → WrittenOn page
+    -- what was written reads back to the stored settings, the frames done and the rows of the track on paper, into any table that has the rows; a program's thresholds have 32 bits
     pub reads-back : SFits w32 (s .thres1) → SFits w32 (s .thres2) → (page : List ℕ) → length left-sheet ≤ length page
         → (into : List ℤ) → frames-done s (final-samples s t ds) ≤ whole-rows into
-        → read-call (take (length left-sheet) (write-call s (run-from-start s t ds .track .frames) (run-from-start s t ds .table) page .page)) into
-        ≡ got (Read s (frames-done s (final-samples s t ds))) (paper-numbers s (final-samples s t ds) no-previous (frames-done s (final-samples s t ds)) ++ drop (frames-done s (final-samples s t ds) * row-size) into)
+        → read-call (take (length left-sheet) (write-call (stored-settings s) (run-from-start s t ds .track .frames) (run-from-start s t ds .table) page .page)) into
+        ≡ got (Read (stored-settings s) (frames-done s (final-samples s t ds))) (paper-numbers s (final-samples s t ds) no-previous (frames-done s (final-samples s t ds)) ++ drop (frames-done s (final-samples s t ds) * row-size) into)
