@@ -1,4 +1,4 @@
--- What the bytes of a program's input say (document 01, "Program"): settings and samples, little-endian. Definitions only.
+-- What the bytes of a program's input say (docs/SCOPE.md, Programs): settings and samples, little-endian. Definitions only.
 use mathlib.Core.List.{List}
 use Prim.Native.Nat.{ℕ, _+_, _*_}
 use lib.IntN.{ℤ, pos}
@@ -8,6 +8,10 @@ use Rattle.zint.specs.Wrap.{wrap}
 use Rattle.lists.specs.Fill.{tabulate}
 use Rattle.sheet_bytes.specs.Bytes.{number-at, signed-at}
 use Rattle.pitch_settings.specs.declared.Settings.{Settings}
+
+-- the bytes of the settings, with which an input begins
+abbrev pub head-size : ℕ
+head-size = 11
 
 -- rate, nb, complexity, a byte each; thres1, thres2, four signed bytes each
 unfoldable pub input-settings : List ℕ → Settings

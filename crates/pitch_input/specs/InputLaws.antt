@@ -14,7 +14,7 @@ use Rattle.lists.specs.PushLaws.{take-overwritten}
 use Rattle.sheet_bytes.specs.Bytes.{number-at, signed-at}
 use Rattle.pitch_settings.specs.declared.Settings.{Settings}
 use Rattle.pitch_settings.specs.Settings.{rate-known, subframes-known, settings-no}
-use Rattle.pitch_input.specs.Input.{input-settings, sample-at, samples-from}
+use Rattle.pitch_input.specs.Input.{head-size, input-settings, sample-at, samples-from}
 
 number-front : (k : ℕ) (b r : List ℕ) (at : ℕ) → at + k ≤ length b → number-at k (b ++ r) at ≡ number-at k b at
 unfolding number-at
@@ -24,7 +24,7 @@ signed-front : (b r : List ℕ) (at : ℕ) → at + 4 ≤ length b → signed-at
 unfolding signed-at
 signed-front b r at h = rw (number-front 4 b r at h)
 
-pub settings-front : (b r : List ℕ) → 11 ≤ length b → input-settings (b ++ r) ≡ input-settings b
+pub settings-front : (b r : List ℕ) → head-size ≤ length b → input-settings (b ++ r) ≡ input-settings b
 unfolding input-settings
 settings-front b r h =
     rw (List·getD-append b r 0 0 (omega arith), List·getD-append b r 0 1 (omega arith), List·getD-append b r 0 2 (omega arith), signed-front b r 3 (omega arith), signed-front b r 7 (omega arith))

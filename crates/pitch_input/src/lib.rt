@@ -2,15 +2,18 @@
 ghost use mathlib.Core.Path.{_≡_};
 ghost use Prim.Native.Nat.{_+_, _*_, _≤_};
 ghost use lib.ListN.{length};
-ghost use Rattle.pitch_input.specs.Input.{input-settings, sample-at, samples-from};
+ghost use Rattle.pitch_input.specs.Input.{head-size, input-settings, sample-at, samples-from};
 use pitch_settings::Settings;
 use sheet_bytes::i32_at;
 use sheet_bytes::u16_at;
 use zint::as_i16;
 
-// The settings in the first eleven bytes.
+// The bytes of the settings, with which an input begins.
+pub const HEAD_SIZE: usize = 11;
+
+// The settings in the first bytes: rate, subframe count and complexity, a byte each, and the two thresholds, four signed bytes each.
 pub fn settings_in(bytes: &[u8]) -> Settings
-    requires { ⌜ 11 ≤ length (now bytes) ⌝ }
+    requires { ⌜ head-size ≤ length (now bytes) ⌝ }
     ensures { λ r. ⌜ r ≡ input-settings (now (bytes .entry)) ⌝ }
 {
     Settings {
@@ -22,6 +25,7 @@ pub fn settings_in(bytes: &[u8]) -> Settings
     }
 }
 
+// The sample in the two bytes from `at` on.
 fn sample_at(bytes: &[u8], at: usize) -> i16
     requires { ⌜ at + 2 ≤ length (now bytes) ⌝ }
     ensures { λ r. ⌜ r ≡ sample-at (now (bytes .entry)) at ⌝ }

@@ -1,13 +1,40 @@
--- Lines of text as bytes: fields of numbers, a row's line, a refusal's (document 01, "Program"). Definitions only.
+-- Lines of text as bytes: fields of numbers, a row's line, a refusal's (docs/SCOPE.md, Programs). Definitions only.
 use mathlib.Core.Bool.{cond}
 use mathlib.Core.List.{List, [], _∷_, _++_}
-use Prim.Native.Nat.{ℕ, zero, suc, _+_}
+use Prim.Native.Nat.{ℕ, zero, suc, _+_, _*_}
 use lib.IntN.{ℤ, pos}
 use lib.ListN.{take}
 use Rattle.zint.specs.Equal.{eqZ}
 pub use Rattle.lists.specs.Put.{Put}
 use Rattle.pitch_table.specs.declared.Row.{Row}
 use Rattle.pitch_text.specs.Decimal.{digits, decimal}
+
+-- ---- the longest of each
+
+-- the digits of a number of 32 bits
+abbrev pub word-digits : ℕ
+word-digits = 10
+
+-- a number after a space: sign and digits
+abbrev pub longest-field : ℕ
+longest-field = 2 + word-digits
+
+-- a row's numbers after its verdict
+abbrev pub row-values : ℕ
+row-values = 7
+
+-- a row as a line: letter, fields and the line's end; and a frame's line: its number and a space before that
+abbrev pub longest-row-text : ℕ
+longest-row-text = 1 + longest-field * row-values + 1
+
+abbrev pub longest-line : ℕ
+longest-line = word-digits + 1 + longest-row-text
+
+-- `refused`, a space, the number and the line's end
+abbrev pub longest-refused : ℕ
+longest-refused = 8 + word-digits + 1
+
+-- ---- the text
 
 -- each number after a space
 unfoldable pub fields : List ℤ → List ℕ

@@ -2,12 +2,21 @@
 ghost use mathlib.Core.Path.{_≡_};
 ghost use Prim.Native.Nat.{_+_, _*_, _≤_};
 ghost use lib.ListN.{length, take};
-ghost use Rattle.pitch_table.specs.Row.{row-at};
+ghost use Rattle.pitch_table.specs.Row.{row-size, most-frames, row-at};
 ghost use Rattle.pitch_text.specs.Decimal.{digits, decimal};
-ghost use Rattle.pitch_text.specs.Text.{fields, letter-of, values-of, row-text, line-text, lines-text, refused-text, Put};
+ghost use Rattle.pitch_text.specs.Text.{longest-field, longest-row-text, longest-line, longest-refused, fields, letter-of, values-of, row-text, line-text, lines-text, refused-text, Put};
 use pitch_table::Row;
 use pitch_table::get_row;
 use silk_macros::abs_u32;
+
+// The digits of a number of 32 bits.
+pub const WORD_DIGITS: usize = 10;
+
+// The longest row as a line: letter, seven numbers each after a space, and the line's end.
+pub const LONGEST_ROW_TEXT: usize = 1 + (2 + WORD_DIGITS) * 7 + 1;
+
+// The longest line of a frame: its number and a space before that.
+pub const LONGEST_LINE: usize = WORD_DIGITS + 1 + LONGEST_ROW_TEXT;
 
 // The decimal digits of n, from `at` on; the place after them.
 pub fn put_digits(out: &mut [u8], at: usize, n: u32) -> usize
@@ -39,8 +48,8 @@ pub fn put_number(out: &mut [u8], at: usize, z: i32) -> usize
 
 // The first n of the values, each after a space.
 pub fn put_fields(out: &mut [u8], at: usize, values: &[i32], n: usize) -> usize
-    requires { ⌜ (n ≤ length (now values)) × (at + 12 * n ≤ length (now out)) ⌝ }
-    ensures { λ r. ⌜ Put (now (out .entry)) at (fields (take n (now (values .entry)))) r (now (out .exit)) × (r ≤ at + 12 * n) ⌝ }
+    requires { ⌜ (n ≤ length (now values)) × (at + longest-field * n ≤ length (now out)) ⌝ }
+    ensures { λ r. ⌜ Put (now (out .entry)) at (fields (take n (now (values .entry)))) r (now (out .exit)) × (r ≤ at + longest-field * n) ⌝ }
 {
     let mut p = at;
     let mut k = 0;
@@ -81,8 +90,8 @@ fn row_values(r: Row) -> [i32; 7]
 
 // A row as a line, with the lags of nb subframes.
 pub fn put_row_text(out: &mut [u8], at: usize, nb: usize, r: Row) -> usize
-    requires { ⌜ (nb ≤ 4) × (at + 86 ≤ length (now out)) ⌝ }
-    ensures { λ end. ⌜ Put (now (out .entry)) at (row-text nb r) end (now (out .exit)) × (end ≤ at + 86) ⌝ }
+    requires { ⌜ (nb ≤ 4) × (at + longest-row-text ≤ length (now out)) ⌝ }
+    ensures { λ end. ⌜ Put (now (out .entry)) at (row-text nb r) end (now (out .exit)) × (end ≤ at + longest-row-text) ⌝ }
 {
     let values = row_values(r);
     out[at] = letter(r.verdict);
@@ -93,7 +102,7 @@ pub fn put_row_text(out: &mut [u8], at: usize, nb: usize, r: Row) -> usize
 
 // A frame's line: its number, then its row.
 pub fn put_line(out: &mut [u8], at: usize, i: u32, nb: usize, r: Row) -> usize
-    requires { ⌜ (nb ≤ 4) × (at + 97 ≤ length (now out)) ⌝ }
+    requires { ⌜ (nb ≤ 4) × (at + longest-line ≤ length (now out)) ⌝ }
     ensures { λ end. ⌜ Put (now (out .entry)) at (line-text i nb r) end (now (out .exit)) × (end ≤ at + 97) ⌝ }
 {
     let p = put_digits(out, at, i);
@@ -103,8 +112,8 @@ pub fn put_line(out: &mut [u8], at: usize, i: u32, nb: usize, r: Row) -> usize
 
 // The lines of the first n rows of the table.
 pub fn put_lines(out: &mut [u8], at: usize, nb: usize, table: &[i32], n: usize) -> usize
-    requires { ⌜ (nb ≤ 4) × (n ≤ 4096) × (n * 8 ≤ length (now table)) × (at + 97 * n ≤ length (now out)) ⌝ }
-    ensures { λ end. ⌜ Put (now (out .entry)) at (lines-text nb (row-at (now (table .entry))) n) end (now (out .exit)) × (end ≤ at + 97 * n) ⌝ }
+    requires { ⌜ (nb ≤ 4) × (n ≤ most-frames) × (n * row-size ≤ length (now table)) × (at + longest-line * n ≤ length (now out)) ⌝ }
+    ensures { λ end. ⌜ Put (now (out .entry)) at (lines-text nb (row-at (now (table .entry))) n) end (now (out .exit)) × (end ≤ at + longest-line * n) ⌝ }
 {
     let mut p = at;
     let mut i = 0;
@@ -118,8 +127,8 @@ pub fn put_lines(out: &mut [u8], at: usize, nb: usize, table: &[i32], n: usize) 
 
 // `refused` and a number.
 pub fn put_refused(out: &mut [u8], at: usize, n: u32) -> usize
-    requires { ⌜ at + 19 ≤ length (now out) ⌝ }
-    ensures { λ end. ⌜ Put (now (out .entry)) at (refused-text n) end (now (out .exit)) × (end ≤ at + 19) ⌝ }
+    requires { ⌜ at + longest-refused ≤ length (now out) ⌝ }
+    ensures { λ end. ⌜ Put (now (out .entry)) at (refused-text n) end (now (out .exit)) × (end ≤ at + longest-refused) ⌝ }
 {
     out[at] = b'r';
     out[at + 1] = b'e';

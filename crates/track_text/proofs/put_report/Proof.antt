@@ -8,11 +8,13 @@ use Rattle.track_paper.specs.Paper.{paper-row, no-previous}
 use Rattle.pitch_text.specs.Text.{lines-text}
 use Rattle.pitch_text.specs.TextLaws.{put-then, put-as, lines-same}
 use Rattle.track_text.specs.Program.{track-head, track-report}
-use Rattle.track_text.specs.ProgramLaws.{few-samples, left-within, tracked-row}
+use Rattle.pitch_recording.specs.Recording.{program-frames}
+use Rattle.pitch_recording.specs.RecordingLaws.{few-samples}
+use Rattle.track_text.specs.ProgramLaws.{left-within, tracked-row}
 use Rattle.track_text.proofs.put_report.Statement.{statement}
 use Rattle.track_text.proofs.put_report.Tie as tie
 
-few : (c : tie.After-track-rows) → c .track-rows .result ≤ 1024
+few : (c : tie.After-track-rows) → c .track-rows .result ≤ program-frames
 few c = omega (arith, c .track-rows .ensures .count, c .before .before .before .pre .1)
 
 track-rows-requires : tie.Need-track-rows-requires

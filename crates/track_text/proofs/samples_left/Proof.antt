@@ -6,7 +6,7 @@ use borrow.Author.Tests.{eq-eqb, ne-eqb}
 use Rattle.pitch_settings.specs.Settings.{frame-length, hop-length}
 use Rattle.track_paper.specs.Paper.{F}
 use Rattle.track_text.specs.Program.{samples-left}
-use Rattle.track_text.specs.ProgramLaws.{last-frame}
+use Rattle.pitch_recording.specs.RecordingLaws.{last-frame}
 use borrow.Author.Needs.{needs}
 use Rattle.track_text.proofs.samples_left.Statement.{statement}
 use Rattle.track_text.proofs.samples_left.Tie as tie

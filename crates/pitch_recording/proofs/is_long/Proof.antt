@@ -1,12 +1,13 @@
--- `track_text::is_long` meets its contract.
+-- `pitch_recording::is_long` meets its contract.
 use mathlib.Core.Path.{ap₂, _∙_}
 use Prim.Native.Nat.{ℕ, _+_, _*_}
 use native.Mathlib.Omega.{arith}
 use lib.Dec.{leb}
 use Rattle.pitch_settings.specs.SettingsLaws.{accepted-settings}
-use Rattle.track_text.specs.ProgramLaws.{hop-small, long-is}
-use Rattle.track_text.proofs.is_long.Statement.{statement}
-use Rattle.track_text.proofs.is_long.Tie as tie
+use Rattle.pitch_recording.specs.Recording.{program-frames}
+use Rattle.pitch_recording.specs.RecordingLaws.{hop-small, long-is}
+use Rattle.pitch_recording.proofs.is_long.Statement.{statement}
+use Rattle.pitch_recording.proofs.is_long.Tie as tie
 
 hop-length-requires : tie.Need-hop-length-requires
 hop-length-requires c κs = c .pre
@@ -23,7 +24,7 @@ add-result c =
 
 returns : tie.Need-returns
 returns c =
-    ap₂ (λ (h l : ℕ). leb (1024 * h + l) (c .before .before .args .n)) (c .before .hop-length .ensures) (c .frame-length .ensures)
+    ap₂ (λ (h l : ℕ). leb (program-frames * h + l) (c .before .before .args .n)) (c .before .hop-length .ensures) (c .frame-length .ensures)
     ∙ long-is (c .before .before .args .s) (c .before .before .pre) (c .before .before .args .n)
 
 pub is-long-spec : {M : Type 1} → statement M
