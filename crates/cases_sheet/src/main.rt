@@ -6,6 +6,7 @@
 // count and table must come out. A table's number i is number i modulo n of those in the record.
 ghost use Prim.Native.Nat.{_≤_};
 ghost use lib.ListN.{length};
+ghost use Rattle.cases_sheet.specs.Rooms.{table-room, page-room, body-room};
 use cases_io::byte_at;
 use cases_io::count;
 use cases_io::i32_at;
@@ -22,7 +23,17 @@ use pitch_sheet::Got;
 use pitch_sheet::Wrote;
 use pitch_sheet::read_sheet;
 use pitch_sheet::write_sheet;
+use pitch_table::MOST_FRAMES;
 use pitch_table::ROW_SIZE;
+
+// The frames, the numbers of a table, the bytes of a page, and the bytes after a record's head for which there is room.
+const FRAMES_ROOM: usize = MOST_FRAMES + 4;
+
+const TABLE_ROOM: usize = ROW_SIZE * FRAMES_ROOM;
+
+const PAGE_ROOM: usize = 33000;
+
+const BODY_ROOM: usize = 4 * TABLE_ROOM + PAGE_ROOM;
 
 struct Case {
     // 0 write, 1 read
@@ -52,7 +63,7 @@ fn table_before(i: usize) -> i32 {
 
 // Number i of the table in the record; 0 where the record has no number.
 fn number_at(body: &[u8], numbers: usize, i: usize) -> i32
-    requires { ⌜ numbers ≤ 32800 ⌝ }
+    requires { ⌜ numbers ≤ table-room ⌝ }
 {
     if numbers == 0 {
         return 0;
@@ -62,7 +73,7 @@ fn number_at(body: &[u8], numbers: usize, i: usize) -> i32
 
 // Fills the table with the record's numbers.
 fn load_table(body: &[u8], numbers: usize, table: &mut [i32])
-    requires { ⌜ numbers ≤ 32800 ⌝ }
+    requires { ⌜ numbers ≤ table-room ⌝ }
 {
     for i in 0..table.len() {
         table[i] = number_at(body, numbers, i);
@@ -83,7 +94,7 @@ fn mark_page(page: &mut [u8]) {
 
 // What number i of a table is to be after the call that writes the first `new` of them.
 fn table_after(body: &[u8], numbers: usize, new: usize, i: usize) -> i32
-    requires { ⌜ numbers ≤ 32800 ⌝ }
+    requires { ⌜ numbers ≤ table-room ⌝ }
 {
     if i < new {
         number_at(body, numbers, i)
@@ -103,7 +114,7 @@ fn page_after(body: &[u8], at: usize, new: usize, i: usize) -> u8 {
 
 // Whether the first `new` numbers are the record's, and the others as before.
 fn table_agrees(body: &[u8], numbers: usize, new: usize, table: &[i32]) -> bool
-    requires { ⌜ numbers ≤ 32800 ⌝ }
+    requires { ⌜ numbers ≤ table-room ⌝ }
 {
     for i in 0..table.len() {
         if table[i] != table_after(body, numbers, new, i) {
@@ -141,7 +152,7 @@ fn got_agrees(c: Case, answer: Got) -> bool {
 
 // Whether writing the record's table does to this page what the record says.
 fn written_agrees(body: &[u8], c: Case, table: &mut [i32], page: &mut [u8]) -> bool
-    requires { ⌜ c .numbers ≤ 32800 ⌝ }
+    requires { ⌜ c .numbers ≤ table-room ⌝ }
 {
     load_table(body, c.numbers, table);
     mark_page(page);
@@ -151,9 +162,9 @@ fn written_agrees(body: &[u8], c: Case, table: &mut [i32], page: &mut [u8]) -> b
 
 // Whether reading this page does to the table what the record says.
 fn read_agrees(body: &[u8], c: Case, page: &[u8], table: &mut [i32]) -> bool
-    requires { ⌜ c .numbers ≤ 32800 ⌝ }
+    requires { ⌜ c .numbers ≤ table-room ⌝ }
 {
-    if c.frames > 4100 {
+    if c.frames > FRAMES_ROOM {
         return false;
     }
     mark_table(table);
@@ -163,35 +174,35 @@ fn read_agrees(body: &[u8], c: Case, page: &[u8], table: &mut [i32]) -> bool
 
 // A write with a table and a page of the lengths that it asks for. One that asks for too much does not agree.
 fn write_case(body: &[u8], c: Case) -> bool
-    requires { ⌜ c .numbers ≤ 32800 ⌝ }
+    requires { ⌜ c .numbers ≤ table-room ⌝ }
 {
     let length = c.table;
     let room = c.page;
-    if length > 32800 || room > 33000 {
+    if length > TABLE_ROOM || room > PAGE_ROOM {
         return false;
     }
-    let mut table = [0i32; 32800];
-    let mut page = [0u8; 33000];
+    let mut table = [0i32; TABLE_ROOM];
+    let mut page = [0u8; PAGE_ROOM];
     written_agrees(body, c, &mut table[..length], &mut page[..room])
 }
 
 // A read of the record's bytes, all of them, with a table of the length that it asks for.
 fn read_case(body: &[u8], c: Case) -> bool
-    requires { ⌜ (c .numbers ≤ 32800) × (c .bytes ≤ 33000) × (164200 ≤ length (now body)) ⌝ }
+    requires { ⌜ (c .numbers ≤ table-room) × (c .bytes ≤ page-room) × (body-room ≤ length (now body)) ⌝ }
 {
     let length = c.table;
-    if length > 32800 || c.page != c.bytes {
+    if length > TABLE_ROOM || c.page != c.bytes {
         return false;
     }
     let from = 4 * c.numbers;
     let end = from + c.bytes;
-    let mut table = [0i32; 32800];
+    let mut table = [0i32; TABLE_ROOM];
     read_agrees(body, c, &body[from..end], &mut table[..length])
 }
 
 // Whether the call that the record names agrees; there is no third.
 fn case_agrees(body: &[u8], c: Case) -> bool
-    requires { ⌜ (c .numbers ≤ 32800) × (c .bytes ≤ 33000) × (164200 ≤ length (now body)) ⌝ }
+    requires { ⌜ (c .numbers ≤ table-room) × (c .bytes ≤ page-room) × (body-room ≤ length (now body)) ⌝ }
 {
     if c.call == 0 {
         return write_case(body, c);
@@ -216,11 +227,11 @@ fn case_of(head: &[u8]) -> Case {
 fn record_agrees(c: Case) -> bool {
     let numbers = c.numbers;
     let bytes = c.bytes;
-    if numbers > 32800 || bytes > 33000 {
+    if numbers > TABLE_ROOM || bytes > PAGE_ROOM {
         return false;
     }
     let size = 4 * numbers + bytes;
-    let mut body = [0u8; 164200];
+    let mut body = [0u8; BODY_ROOM];
     let got = io::read_full(STDIN_FILENO, &mut body[..size]);
     if got != size {
         return false;

@@ -1,4 +1,4 @@
--- Little-endian numbers (document 01, "Sheet": all little-endian). Definitions only; the laws are in `BytesLaws`.
+-- Little-endian numbers (docs/SCOPE.md, Sheet: all little-endian). Definitions only; the laws are in `BytesLaws`.
 use mathlib.Core.List.{List, [], _∷_}
 use Prim.Native.Nat.{ℕ, zero, suc, _+_, _*_, _/_, _%_, _^_, _<_}
 use lib.IntN.{ℤ, pos}

@@ -1,17 +1,15 @@
 -- Laws of little-endian numbers: bytes and number are each other's inverse, and the steps by which the code takes them apart and puts them together.
 use mathlib.Core.Path.{_≡_, refl, sym, ap, ap₂, _∙_}
 use mathlib.Core.List.{List, [], _∷_, _++_}
-use Prim.Native.Nat.{ℕ, zero, suc, _+_, _-_, _*_, _/_, _%_, _^_, _≤_, _<_}
+use Prim.Native.Nat.{ℕ, zero, suc, _+_, _*_, _/_, _%_, _^_, _≤_, _<_}
 use native.Mathlib.Omega.{arith}
 use native.Mathlib.Numerals.{towards-suc}
 use lib.Arith.{digits-div, digits-mod, mod-mul}
-use lib.IntN.{ℤ, pos, negsuc, _+ℤ_}
-use lib.Signed.{_≤ℤ_, _<ℤ_}
+use lib.IntN.{ℤ, pos}
 use lib.ListN.{length, getD, take, drop, set, length-drop}
 use lib.Seq.{drop-cons, drop-at, take-at, sets, getD-drop, length-take-le}
 use mir.Syntax.{w32}
 use mir.Val.{SFits}
-use Rattle.zint.specs.DiffLaws.{eq-of, add-ud, zarith}
 use Rattle.zint.specs.Wrap.{modZ, wrap}
 use Rattle.zint.specs.WrapLaws.{modZ-is, modZ-lt, modZ-cong, wrap-cong, wrap-is, cong-sym}
 use Rattle.sheet_bytes.specs.Bytes.{Bytes, low-bytes, number, number-at, word, signed, signed-at}
@@ -64,17 +62,6 @@ pub word-nat : (n : ℕ) → n < 4294967296 → word (pos n) ≡ n
 unfolding word modZ
 word-nat n h = omega arith
 
--- as the code finds them
-pub word-pos : (z : ℤ) → SFits w32 z → pos 0 ≤ℤ z → z ≡ pos (word z)
-unfolding word modZ
-word-pos (pos a) f h = ap pos (omega (arith, f .sfits))
-word-pos (negsuc a) f h = absurd (h .le)
-
-pub word-neg : (z : ℤ) → SFits w32 z → z <ℤ pos 0 → z +ℤ pos 4294967296 ≡ pos (word z)
-unfolding word modZ
-word-neg (pos a) f h = absurd (omega zarith)
-word-neg (negsuc a) f h = eq-of (negsuc a +ℤ pos 4294967296) (pos (4294967296 - suc (a % 4294967296))) (omega (zarith, f .sfits, add-ud (negsuc a) (pos 4294967296)))
-
 pub word-signed : (n : ℕ) → n < 4294967296 → word (wrap w32 (pos n)) ≡ n
 unfolding word
 word-signed n h = modZ-is (wrap w32 (pos n)) 4294967296 n h (cong-sym (wrap-cong w32 (pos n)))
@@ -91,20 +78,20 @@ pub drop-bytes : (at : ℕ) (p : List ℕ) → Bytes p → Bytes (drop at p)
 drop-bytes at p h i = rw (getD-drop at p i 0) (h (at + i))
 
 module _ (k : ℕ) (p : List ℕ) (at : ℕ) (h : Bytes p) (l : at + k ≤ length p) where
-  part : Bytes (take k (drop at p))
-  part = take-bytes k (drop at p) (drop-bytes at p h)
+  stretch : Bytes (take k (drop at p))
+  stretch = take-bytes k (drop at p) (drop-bytes at p h)
 
-  part-length : length (take k (drop at p)) ≡ k
-  part-length = length-take-le k (drop at p) (rw length-drop (omega arith))
+  stretch-length : length (take k (drop at p)) ≡ k
+  stretch-length = length-take-le k (drop at p) (rw length-drop (omega arith))
 
   -- the bytes of the number that stands there are those that stand there
   pub bytes-at : low-bytes k (number-at k p at) ≡ take k (drop at p)
   unfolding number-at
-  bytes-at = ap (λ (n : ℕ). low-bytes n (number (take k (drop at p)))) (sym part-length) ∙ bytes-number (take k (drop at p)) part
+  bytes-at = ap (λ (n : ℕ). low-bytes n (number (take k (drop at p)))) (sym stretch-length) ∙ bytes-number (take k (drop at p)) stretch
 
   pub number-at-lt : number-at k p at < 256 ^ k
   unfolding number-at
-  number-at-lt = rw part-length at (number-lt (take k (drop at p)) part)
+  number-at-lt = rw stretch-length at (number-lt (take k (drop at p)) stretch)
 
 pub signed-bytes-at : (p : List ℕ) (at : ℕ) → Bytes p → at + 4 ≤ length p → signed (signed-at p at) ≡ take 4 (drop at p)
 unfolding signed signed-at

@@ -6,6 +6,7 @@ use native.Mathlib.Omega.{arith}
 use borrow.Author.Tests.{ltb-false}
 use lib.ListN.{length, drop, replicate, length-replicate}
 use lib.Seq.{length-take-le, length-front}
+use Rattle.cases_sheet.specs.Rooms.{body-room}
 use borrow.Author.Needs.{needs}
 use Rattle.cases_sheet.proofs.record_agrees.Statement.{statement}
 use Rattle.cases_sheet.proofs.record_agrees.Tie as tie
@@ -14,8 +15,8 @@ use Rattle.cases_sheet.proofs.record_agrees.Tie as tie
 abbrev size : (c : tie.After-read-full) → ℕ
 size c = 4 * c .before .before .before .before .args .c .numbers + c .before .before .before .before .args .c .bytes
 
-whole : (c : tie.After-read-full) → length (c .read-full .last .1 .0 ++ drop (size c) (replicate 164200 0)) ≡ 164200
-whole c = length-front (replicate 164200 0) (c .read-full .last .1 .0) (size c) (c .read-full .kept .1 .0) ∙ length-replicate {0} {A = ℕ} 164200 0
+whole : (c : tie.After-read-full) → length (c .read-full .last .1 .0 ++ drop (size c) (replicate body-room 0)) ≡ body-room
+whole c = length-front (replicate body-room 0) (c .read-full .last .1 .0) (size c) (c .read-full .kept .1 .0) ∙ length-replicate {0} {A = ℕ} body-room 0
 
 add-size : tie.Need-add-size
 add-size c = omega (arith, ltb-false)

@@ -8,20 +8,11 @@ use borrow.Author.Needs.{needs}
 use Rattle.sheet_bytes.proofs.put_i32.Statement.{statement}
 use Rattle.sheet_bytes.proofs.put_i32.Tie as tie
 
-word-of-requires : tie.Need-word-of-requires
-word-of-requires c κs = search needs
-
-put-u32-requires : tie.Need-put-u32-requires
-put-u32-requires c κs = search needs
-
-same-length : tie.Need-same-length
-same-length c = search needs
-
 returns : tie.Need-returns
-unfolding signed
+unfolding signed word
 returns c =
     let s = c .before .before .before .before .before .before in
-    c .before .before .put-u32 .ensures ∙ ap (λ (n : ℕ). sets (s .args .page .now) (s .args .at) (low-bytes 4 n)) (c .before .before .before .word-of .ensures ∙ ap word (r-var (s .fits .z) .val))
+    c .before .before .put-u32 .ensures ∙ ap (λ (n : ℕ). sets (s .args .page .now) (s .args .at) (low-bytes 4 n)) (c .before .before .before .bits-u32 .ensures ∙ ap word (r-var (s .fits .z) .val))
 
 pub put-i32-spec : {M : Type 1} → statement M
-put-i32-spec = tie.close (tie.spec word-of-requires put-u32-requires same-length returns)
+put-i32-spec = tie.close (tie.spec (λ c κs. search needs) (λ c κs. search needs) (λ c. search needs) returns)

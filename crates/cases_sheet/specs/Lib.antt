@@ -1,0 +1,2 @@
+-- Definitions: `Rooms`.
+pub mod Rooms
