@@ -13,7 +13,7 @@ use lib.Seq.{length-take-le}
 use Rattle.pitch_settings.specs.declared.Settings.{Settings}
 use Rattle.pitch_settings.specs.Settings.{settings-no, frame-length}
 use Rattle.pitch_settings.specs.SettingsLaws.{accepted-settings}
-use Rattle.silk_tables.specs.Tables.{contours, in-use, greatest-index}
+use Rattle.silk_tables.specs.Tables.{contours, in-use, greatest-lag, greatest-index}
 use Rattle.silk_tables.specs.ContourLaws.{contours-8, contours-other}
 use Rattle.frame_signals.specs.Scale.{scaled}
 use Rattle.frame_signals.specs.ScaleLaws.{length-scaled}
@@ -33,8 +33,8 @@ use Rattle.silk_pitch_analysis.specs.Frame.{signal8, signal4, scaled-lag
 use Rattle.silk_pitch_analysis.specs.Steps.{WinnerRange, VerdictCarried, unvoiced, zero-divisor}
 use Rattle.silk_pitch_analysis.specs.FrameLaws.{pair-carried, stage3-range}
 
--- 16 fs more than 2 fs are 18 fs: the greatest index at 12 and 16 kHz
-greatest-other : (fs : ℕ) → (fs ≡ 12) ⊎ (fs ≡ 16) → 18 * fs ≤ 2 * fs + greatest-index fs
+-- the greatest lag at 12 and 16 kHz, by the greatest index
+greatest-other : (fs : ℕ) → (fs ≡ 12) ⊎ (fs ≡ 16) → greatest-lag fs ≤ 2 * fs + greatest-index fs
 unfolding greatest-index
 greatest-other fs (inl e) = rw e (omega arith)
 greatest-other fs (inr e) = rw e (omega arith)

@@ -7,17 +7,16 @@ use mathlib.Core.Logic.{_⊎_}
 use Prim.Native.Nat.{ℕ, _*_, _≤_, _<_}
 use lib.Dec.{eqb, ltb}
 use lib.IntN.{ℤ, pos, natAbs, _+ℤ_}
-use lib.Signed.{leZ, ltZ, _≤ℤ_}
+use lib.Signed.{leZ, ltZ, _≤ℤ_, _<ℤ_}
 use Rattle.zint.specs.Clamp.{clamp}
 use Rattle.lists.specs.Fill.{tabulate}
-use Rattle.pitch_settings.specs.Settings.{settings-refusal, complexity-held}
-use Rattle.silk_tables.specs.Tables.{offset, offset2, contours, greatest-index}
+use Rattle.silk_tables.specs.Tables.{least-lag, offset, offset2, contours, greatest-index}
 use Rattle.silk_tables.specs.declared.rebuild.Rebuilt.{Rebuilt}
 use Rattle.silk_tables.specs.declared.rebuild.Rebuilt.the-variants.{Lag, NotCarried}
 
--- lag_min is 2 ms and lag_max 18 ms
+-- lag_min is 2 ms, the least lag tried, and lag_max 18 ms, whatever the greatest lag tried
 abbrev pub lag-min : ℕ → ℕ
-lag-min fs = 2 * fs
+lag-min fs = least-lag fs
 
 abbrev pub lag-max : ℕ → ℕ
 lag-max fs = 18 * fs
@@ -27,8 +26,8 @@ unfoldable pub primary : ℕ → ℤ → ℤ
 primary fs index = pos (lag-min fs) +ℤ index
 
 -- the four codebooks, by bandwidth and frame size: how many entries a book has, and the offset of one of them for subframe k
-unfoldable pub entries : ℕ → ℕ → ℕ
-entries fs nb = cond (eqb fs 8) (cond (eqb nb 4) 11 3) (cond (eqb nb 4) 34 12)
+unfoldable pub book-entries : ℕ → ℕ → ℕ
+book-entries fs nb = cond (eqb fs 8) (cond (eqb nb 4) 11 3) (cond (eqb nb 4) 34 12)
 
 unfoldable pub book : ℕ → ℕ → ℕ → ℕ → ℤ
 book fs nb k contour = cond (eqb fs 8) (offset2 nb k contour) (offset nb k contour)
@@ -48,7 +47,7 @@ pub record Coded (fs nb : ℕ) (index : ℤ) (contour k : ℕ) : Type 0 where
   pub subframes : (nb ≡ 2) ⊎ (nb ≡ 4)
   pub index-ge : pos 0 ≤ℤ index
   pub index-le : index ≤ℤ pos 256
-  pub entry : contour < entries fs nb
+  pub entry : contour < book-entries fs nb
   pub subframe : k < nb
 
 -- ---- which pairs there are (document 01, Contours and Sheet)
@@ -58,11 +57,14 @@ unfoldable pub carried : ℕ → ℕ → ℕ → ℤ → ℤ → Bool
 carried fs nb cx index contour =
     leZ (pos 0) index && leZ index (pos (greatest-index fs)) && leZ (pos 0) contour && ltZ contour (pos (contours fs nb cx))
 
--- settings that a sheet can hold, a subframe of the frame, and a carried pair
-abbrev pub rebuildable : ℕ → ℕ → ℕ → ℤ → ℤ → ℕ → Bool
-rebuildable fs nb cx index contour k = eqb (settings-refusal fs nb (complexity-held cx)) 0 && ltb k nb && carried fs nb cx index contour
+-- the same as facts
+pub record CarriedPair (fs nb cx : ℕ) (index contour : ℤ) : Type 0 where
+  pub index-ge : pos 0 ≤ℤ index
+  pub index-le : index ≤ℤ pos (greatest-index fs)
+  pub contour-ge : pos 0 ≤ℤ contour
+  pub contour-lt : contour <ℤ pos (contours fs nb cx)
 
--- the answer for any numbers: a lag where there is one to rebuild
+-- the answer for any numbers: a lag where the settings are accepted, the frame has a subframe k, and the pair is carried
 unfoldable pub rebuild-call : ℕ → ℕ → ℕ → ℤ → ℤ → ℕ → Rebuilt
 rebuild-call fs nb cx index contour k =
     cond (rebuildable fs nb cx index contour k) (Lag (rebuilt fs nb index (natAbs contour) k)) NotCarried

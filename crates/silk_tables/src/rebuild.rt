@@ -1,13 +1,13 @@
-// RFC 6716, section 4.2.7.6.1: the lags that a lag index and a contour index stand for, in that text's sequence.
+// RFC 6716, section 4.2.7.6.1: the lags that a lag index and a contour index stand for, in that text's sequence. Nothing here is ported: the source assembles its lags
+// in pitch_analysis.rs, and `specs/RebuildLaws.antt` shows that they are these.
 ghost use mathlib.Core.Path.{_≡_};
 ghost use mathlib.Core.List.{[], _∷_};
 ghost use mathlib.Core.Logic.{_⊎_};
 ghost use Prim.Native.Nat.{_<_, _≤_};
 ghost use lib.IntN.{natAbs};
 ghost use Rattle.answers.specs.Answer.{answer-numbers};
-ghost use Rattle.silk_tables.specs.Rebuild.{lag-min, lag-max, entries, book, rebuilt, Coded, carried, rebuild-call, rebuilt-numbers, rebuilt-number};
+ghost use Rattle.silk_tables.specs.Rebuild.{lag-max, book-entries, book, rebuilt, Coded, accepted, carried, rebuild-call, rebuilt-numbers, rebuilt-number};
 use crate::PE_MAX_LAG_MS;
-use crate::PE_MIN_LAG_MS;
 use crate::SILK_PE_MAX_COMPLEX;
 use pitch_settings::Settings;
 use pitch_settings::held_no;
@@ -18,13 +18,7 @@ pub enum Rebuilt {
     NotCarried,
 }
 
-fn lag_min(fs_khz: usize) -> usize
-    requires { ⌜ (8 ≤ «fs_khz») × («fs_khz» ≤ 16) ⌝ }
-    ensures { λ r. ⌜ r ≡ lag-min «fs_khz» ⌝ }
-{
-    PE_MIN_LAG_MS * fs_khz
-}
-
+// The greatest lag that a pair can stand for.
 fn lag_max(fs_khz: usize) -> usize
     requires { ⌜ (8 ≤ «fs_khz») × («fs_khz» ≤ 16) ⌝ }
     ensures { λ r. ⌜ r ≡ lag-max «fs_khz» ⌝ }
@@ -34,7 +28,7 @@ fn lag_max(fs_khz: usize) -> usize
 
 // The codebook's offset for subframe k. Stage 3's whole book is in use at the greatest complexity.
 fn codebook_offset(fs_khz: usize, nb_subfr: usize, k: usize, contour_index: usize) -> i32
-    requires { ⌜ ((«nb_subfr» ≡ 2) ⊎ («nb_subfr» ≡ 4)) × ((k < «nb_subfr») × («contour_index» < entries «fs_khz» «nb_subfr»)) ⌝ }
+    requires { ⌜ ((«nb_subfr» ≡ 2) ⊎ («nb_subfr» ≡ 4)) × ((k < «nb_subfr») × («contour_index» < book-entries «fs_khz» «nb_subfr»)) ⌝ }
     ensures { λ r. ⌜ r ≡ book «fs_khz» «nb_subfr» k «contour_index» ⌝ }
 {
     if fs_khz == 8 {
@@ -49,7 +43,7 @@ pub fn lag_of(fs_khz: usize, nb_subfr: usize, lag_index: i32, contour_index: usi
     requires { ⌜ Coded «fs_khz» «nb_subfr» «lag_index» «contour_index» k ⌝ }
     ensures { λ r. ⌜ r ≡ rebuilt «fs_khz» «nb_subfr» «lag_index» «contour_index» k ⌝ }
 {
-    let least = lag_min(fs_khz) as i32;
+    let least = crate::least_lag(fs_khz) as i32;
     let greatest = lag_max(fs_khz) as i32;
     let primary = least + lag_index;
     let lag = primary + codebook_offset(fs_khz, nb_subfr, k, contour_index);

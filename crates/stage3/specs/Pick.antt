@@ -1,25 +1,34 @@
--- Stage 3's choice of a pair, a lag d and a contour j, by comparison with all others. fs is the rate, nb the subframe count, cx the complexity, lag the scaled winner of
--- stage 2, and cross d j and energy d j are the summed cross-correlation and the summed energy of a pair.
+-- Stage 3's choice of a pair, a lag d and a contour j, by comparison with all others.
 use mathlib.Core.Bool.{Bool, _&&_, cond}
 use Prim.Native.Nat.{ℕ, _+_, _-_, _*_, _/_, _%_, min, max}
 use lib.IntN.{ℤ, pos, _+ℤ_, _-ℤ_, _*ℤ_}
 use lib.Signed.{ltZ, leZ, quotZ}
 use Rattle.silk_macros.specs.Macros.{smulwb}
 use Rattle.silk_macros.specs.Divide.{quotient, by-zero}
-use Rattle.silk_tables.specs.Tables.{in-use, offset}
+use Rattle.silk_tables.specs.Tables.{in-use, offset, least-lag, greatest-lag}
 use Rattle.best.specs.Best.{some, Place, none, at, best}
 use Rattle.silk_macros.specs.declared.Quotient.{Quotient}
 use Rattle.silk_macros.specs.declared.Quotient.the-variants.{Value, ZeroDivisor as ByZero}
 use Rattle.stage3.specs.declared.Found.{Found}
 use Rattle.stage3.specs.declared.Found.the-variants.{Pair, ZeroDivisor}
 
--- ---- the lags tried: within 2 of the scaled winner and within 2 fs to 18 fs, rising from the first
+-- what stage 3 chooses from: the rate, the subframe count, the complexity, the scaled winner of stage 2, and of every pair of a lag d and a contour j the summed
+-- cross-correlation and the summed energy
+pub record Choice : Type 0 where
+  pub fs : ℕ
+  pub nb : ℕ
+  pub cx : ℕ
+  pub lag : ℕ
+  pub cross : ℕ → ℕ → ℤ
+  pub energy : ℕ → ℕ → ℤ
+
+-- ---- the lags tried: within 2 of the scaled winner and within the least and the greatest lag, rising from the first
 
 unfoldable pub first-tried : ℕ → ℕ → ℕ
-first-tried fs lag = max (lag - 2) (2 * fs)
+first-tried fs lag = max (lag - 2) (least-lag fs)
 
 unfoldable pub last-tried : ℕ → ℕ → ℕ
-last-tried fs lag = min (lag + 2) (18 * fs)
+last-tried fs lag = min (lag + 2) (greatest-lag fs)
 
 unfoldable pub tried : ℕ → ℕ → ℕ
 tried fs lag = last-tried fs lag + 1 - first-tried fs lag
@@ -42,41 +51,57 @@ score-of lag j ByZero = pos 0
 
 -- ---- the pairs, by their number p: lags rising, then contours
 
-unfoldable pub lag-no : ℕ → ℕ → ℕ → ℕ → ℕ → ℕ
-lag-no fs nb cx lag p = first-tried fs lag + p / in-use nb cx
+abbrev pub used-in : Choice → ℕ
+used-in c = in-use (c .nb) (c .cx)
 
-unfoldable pub contour-no : ℕ → ℕ → ℕ → ℕ
-contour-no nb cx p = p % in-use nb cx
+unfoldable pub lag-no : Choice → ℕ → ℕ
+lag-no c p = first-tried (c .fs) (c .lag) + p / used-in c
 
-unfoldable pub pairs : ℕ → ℕ → ℕ → ℕ → ℕ
-pairs fs nb cx lag = tried fs lag * in-use nb cx
+unfoldable pub contour-no : Choice → ℕ → ℕ
+contour-no c p = p % used-in c
+
+unfoldable pub pair-count : Choice → ℕ
+pair-count c = tried (c .fs) (c .lag) * used-in c
 
 -- the pair at a place; where there is none, the scaled winner with contour 0
-abbrev pub pair-at : ℕ → ℕ → ℕ → ℕ → Place → Found
-pair-at fs nb cx lag none = Pair lag 0
-pair-at fs nb cx lag (at p) = Pair (lag-no fs nb cx lag p) (contour-no nb cx p)
+abbrev pub pair-at : Choice → Place → Found
+pair-at c none = Pair (c .lag) 0
+pair-at c (at p) = Pair (lag-no c p) (contour-no c p)
 
--- ---- a pair's standing, from the sums of every pair
+-- ---- a pair's standing
 
 -- a quotient is reached where the cross-correlation is positive, whatever the lag; it has divisor zero
-unfoldable pub zero-reached : (ℕ → ℕ → ℤ) → (ℕ → ℕ → ℤ) → ℕ → ℕ → Bool
-zero-reached cross energy d j = ltZ (pos 0) (cross d j) && by-zero (quotient-of (cross d j) (energy d j))
+unfoldable pub zero-reached3 : Choice → ℕ → ℕ → Bool
+zero-reached3 c d j = ltZ (pos 0) (c .cross d j) && by-zero (quotient-of (c .cross d j) (c .energy d j))
 
--- a candidate: a positive cross-correlation, and the lag moved by the first subframe's offset is at most 18 fs
-unfoldable pub candidate : (ℕ → ℕ → ℤ) → ℕ → ℕ → ℕ → ℕ → Bool
-candidate cross fs nb d j = ltZ (pos 0) (cross d j) && leZ (pos d +ℤ offset nb 0 j) (pos (18 * fs))
+-- the lag d moved by the first subframe's offset is at most the greatest lag
+abbrev pub reached : ℕ → ℕ → ℕ → ℕ → Bool
+reached fs nb d j = leZ (pos d +ℤ offset nb 0 j) (pos (greatest-lag fs))
 
-unfoldable pub score : (ℕ → ℕ → ℤ) → (ℕ → ℕ → ℤ) → ℕ → ℕ → ℕ → ℤ
-score cross energy lag d j = score-of lag j (quotient-of (cross d j) (energy d j))
+-- a candidate: a positive cross-correlation, and within that reach
+unfoldable pub candidate : Choice → ℕ → ℕ → Bool
+candidate c d j = ltZ (pos 0) (c .cross d j) && reached (c .fs) (c .nb) d j
+
+unfoldable pub score : Choice → ℕ → ℕ → ℤ
+score c d j = score-of (c .lag) j (quotient-of (c .cross d j) (c .energy d j))
+
+-- the same by a pair's number
+abbrev pub zero-no : Choice → ℕ → Bool
+zero-no c p = zero-reached3 c (lag-no c p) (contour-no c p)
+
+abbrev pub candidate-no : Choice → ℕ → Bool
+candidate-no c p = candidate c (lag-no c p) (contour-no c p)
+
+abbrev pub score-no : Choice → ℕ → ℤ
+score-no c p = score c (lag-no c p) (contour-no c p)
 
 -- ---- the pick: a zero divisor where a reached quotient has one; else the first candidate that no candidate outdoes
 
-abbrev pub zero3 : (ℕ → ℕ → ℤ) → (ℕ → ℕ → ℤ) → ℕ → ℕ → ℕ → ℕ → Bool
-zero3 cross energy fs nb cx lag = some (pairs fs nb cx lag) (λ p. zero-reached cross energy (lag-no fs nb cx lag p) (contour-no nb cx p))
+abbrev pub zero3 : Choice → Bool
+zero3 c = some (pair-count c) (zero-no c)
 
-abbrev pub best3 : (ℕ → ℕ → ℤ) → (ℕ → ℕ → ℤ) → ℕ → ℕ → ℕ → ℕ → Place
-best3 cross energy fs nb cx lag =
-    best (pairs fs nb cx lag) (λ p. candidate cross fs nb (lag-no fs nb cx lag p) (contour-no nb cx p)) (λ p. score cross energy lag (lag-no fs nb cx lag p) (contour-no nb cx p))
+abbrev pub best3 : Choice → Place
+best3 c = best (pair-count c) (candidate-no c) (score-no c)
 
-unfoldable pub pick : (ℕ → ℕ → ℤ) → (ℕ → ℕ → ℤ) → ℕ → ℕ → ℕ → ℕ → Found
-pick cross energy fs nb cx lag = cond (zero3 cross energy fs nb cx lag) ZeroDivisor (pair-at fs nb cx lag (best3 cross energy fs nb cx lag))
+unfoldable pub pick : Choice → Found
+pick c = cond (zero3 c) ZeroDivisor (pair-at c (best3 c))

@@ -15,8 +15,9 @@ use Rattle.zint.specs.DiffLaws.{dn, v, n as num, _⊕_, sfits-by, le-in, zarith
 use Rattle.zint.specs.Wrap.{wrap}
 use Rattle.zint.specs.WrapLaws.{wrap-fits}
 use Rattle.silk_macros.specs.Macros.{smulwb}
-use Rattle.silk_tables.specs.Tables.{TableSettings, in-use, offset, high}
+use Rattle.silk_tables.specs.Tables.{TableSettings, in-use, offset, least-lag, greatest-lag, range-high}
 use Rattle.silk_tables.specs.TableLaws.{offset-ge, offset-le, low-ge, high-le}
+use Rattle.silk_tables.specs.ContourLaws.{greatest-lag-le, greatest-lag-ge}
 use Rattle.stage3.specs.Pick.{first-tried, last-tried, bias-of, biased}
 use Rattle.stage3.specs.Stage3.{sat-sum}
 
@@ -50,7 +51,7 @@ module _ (b : ℤ) (j : ℕ) (l : pos 0 ≤ℤ b) (u : b ≤ℤ pos 68) (h : j <
 pub reach-fits : {nb cx k : ℕ} (s : TableSettings nb cx) → k < nb → (d j : ℕ) → d ≤ 288 → j < in-use nb cx → SFits w32 (pos d +ℤ offset nb k j)
 reach-fits {nb} {cx} {k} s h d j l hj =
     let a = offset-ge s h j hj in
-    let b = le-in (v (offset nb k j) ⊕ num 4) (v (high nb cx k)) (offset-le s h j hj) in
+    let b = le-in (v (offset nb k j) ⊕ num 4) (v (range-high nb cx k)) (offset-le s h j hj) in
     let e = low-ge s h in
     let f = high-le s h in
     sfits-by w32 (num d ⊕ v (offset nb k j)) (omega zarith) (omega zarith)
@@ -78,19 +79,22 @@ score-above q bias j f =
     let z = pos 32767 -ℤ bias *ℤ pos j in
     above (q *ℤ wrap w16 z) (abs-prod {A = 2 ^ 31} {B = 2 ^ 15} q (wrap w16 z) (fits-abs f) (fits-abs (wrap-fits w16 z)))
 
--- ---- the lags tried: five at most, all within 24 to 18 fs
+-- ---- the lags tried: five at most, all within the least and the greatest
 
 pub few-lags : (fs lag d : ℕ) → 2 * fs ≤ lag → d ≤ last-tried fs lag → d - first-tried fs lag < 5
 unfolding first-tried last-tried
 few-lags fs lag d h l = omega arith
 
-pub last-le : (fs lag : ℕ) → last-tried fs lag ≤ 18 * fs
+pub last-le : (fs lag : ℕ) → last-tried fs lag ≤ greatest-lag fs
 unfolding last-tried
 last-le fs lag = omega arith
 
-pub first-le-last : (fs lag : ℕ) → 2 * fs ≤ lag → lag ≤ 18 * fs → first-tried fs lag ≤ last-tried fs lag
+pub last-in : (fs lag : ℕ) → 12 ≤ fs → last-tried fs lag ≤ 18 * fs
+last-in fs lag h = omega (arith, last-le fs lag, greatest-lag-le fs h)
+
+pub first-le-last : (fs lag : ℕ) → least-lag fs ≤ lag → lag ≤ greatest-lag fs → 12 ≤ fs → first-tried fs lag ≤ last-tried fs lag
 unfolding first-tried last-tried
-first-le-last fs lag h l = omega arith
+first-le-last fs lag h l r = let g = greatest-lag-ge fs r in omega arith
 
 pub first-low : (fs lag : ℕ) → 2 * fs ≤ first-tried fs lag
 unfolding first-tried

@@ -1,14 +1,16 @@
-// Stage 3 of the pitch analyser: the lag near stage 2's winner and the contour with the highest score.
+// Stage 3 of the pitch analyser: the lag near stage 2's winner and the contour with the highest score. The source has no function for it: this is the part of
+// silk_pitch_analysis_core (pitch_analysis.rs) from `start_lag` to the end of the loops over lags and contours. The names of variables are the source's, those of functions
+// and types ours.
 ghost use mathlib.Core.Path.{_≡_};
-ghost use Prim.Native.Nat.{ℕ, _+_, _-_, _*_, _<_, _≤_};
-ghost use lib.IntN.{pos, _+ℤ_};
+ghost use Prim.Native.Nat.{ℕ, _+_, _-_, _*_, _<_, _≤_, min, max};
+ghost use lib.IntN.{pos};
 ghost use lib.ListN.{length};
-ghost use lib.Signed.{leZ, _≤ℤ_};
+ghost use lib.Signed.{_≤ℤ_};
 ghost use Rattle.answers.specs.Answer.{answer-numbers};
-ghost use Rattle.silk_tables.specs.Tables.{TableSettings, in-use, offset};
-ghost use Rattle.stage3.specs.Pick.{first-tried, last-tried, biased};
+ghost use Rattle.silk_tables.specs.Tables.{in-use};
+ghost use Rattle.stage3.specs.Pick.{first-tried, last-tried, biased, reached, pick};
 ghost use Rattle.stage3.specs.Stage3.{sat-sum, energy-target, stage3, found-numbers, stage3-verdict, stage3-values, Handed};
-ghost use Rattle.stage3.specs.Searched.{considered, at3, Scanned, Upto, UptoOr, picked};
+ghost use Rattle.stage3.specs.Search.{considered, at3, array-choice, Scanned, TriedPair, BestOfFirst, AfterFirst};
 use silk_macros::Quotient;
 use silk_macros::silk_add_sat32;
 use silk_macros::silk_div32_16;
@@ -19,45 +21,51 @@ use stage3_arrays::silk_p_ana_calc_corr_st3;
 use stage3_arrays::silk_p_ana_calc_energy_st3;
 use zint::wrapping_add_i32;
 
-// What stage 3 answers.
+// What stage 3 answers: the lag and the contour, or that a quotient it takes has divisor zero.
 pub enum Found {
     Pair { lag: usize, contour: usize },
     ZeroDivisor,
 }
 
 // The best pair so far and its score.
-pub struct Best {
+pub struct BestSoFar {
     pub top: i32,
     pub lag: usize,
     pub contour: usize,
 }
 
 // A search that goes on, or has met a zero divisor.
-pub enum Search {
-    Going(Best),
+pub enum SearchState {
+    Going(BestSoFar),
     Stopped,
 }
 
-fn start_lag(fs_khz: usize, lag: usize) -> usize
-    requires { ⌜ (12 ≤ «fs_khz») × ((«fs_khz» ≤ 16) × ((2 * «fs_khz» ≤ lag) × (lag ≤ 18 * «fs_khz»))) ⌝ }
-    ensures { λ r. ⌜ r ≡ first-tried «fs_khz» lag ⌝ }
+fn larger(a: usize, b: usize) -> usize
+    ensures { λ r. ⌜ r ≡ max a b ⌝ }
 {
-    if lag - 2 < 2 * fs_khz {
-        2 * fs_khz
-    } else {
-        lag - 2
-    }
+    if a < b { b } else { a }
 }
 
+fn smaller(a: usize, b: usize) -> usize
+    ensures { λ r. ⌜ r ≡ min a b ⌝ }
+{
+    if a < b { a } else { b }
+}
+
+// The first lag tried.
+fn start_lag(fs_khz: usize, lag: usize) -> usize
+    requires { ⌜ («fs_khz» ≤ 16) × (2 ≤ lag) ⌝ }
+    ensures { λ r. ⌜ r ≡ first-tried «fs_khz» lag ⌝ }
+{
+    larger(lag - 2, silk_tables::least_lag(fs_khz))
+}
+
+// The last lag tried.
 fn end_lag(fs_khz: usize, lag: usize) -> usize
-    requires { ⌜ (12 ≤ «fs_khz») × ((«fs_khz» ≤ 16) × ((2 * «fs_khz» ≤ lag) × (lag ≤ 18 * «fs_khz»))) ⌝ }
+    requires { ⌜ («fs_khz» ≤ 16) × (lag ≤ 288) ⌝ }
     ensures { λ r. ⌜ r ≡ last-tried «fs_khz» lag ⌝ }
 {
-    if 18 * fs_khz < lag + 2 {
-        18 * fs_khz
-    } else {
-        lag + 2
-    }
+    smaller(lag + 2, silk_tables::greatest_lag(fs_khz))
 }
 
 // A pair's numbers added up over the subframes.
@@ -87,17 +95,18 @@ fn mark_down(cc_max_new: i32, contour_bias_q15: i32, j: usize) -> i32
     silk_smulwb(cc_max_new, diff)
 }
 
-// Whether the lag d, moved by contour j's first offset, is at most the greatest lag.
+// Whether the lag d, moved by contour j's offset in the first subframe, is at most the greatest lag.
 fn in_reach(d: usize, nb_subfr: usize, complexity: usize, j: usize, fs_khz: usize) -> bool
-    requires { ⌜ TableSettings «nb_subfr» complexity × ((j < in-use «nb_subfr» complexity) × ((d ≤ 288) × («fs_khz» ≤ 16))) ⌝ }
-    ensures { λ r. ⌜ r ≡ leZ (pos d +ℤ offset «nb_subfr» 0 j) (pos (18 * «fs_khz»)) ⌝ }
+    requires { ⌜ TriedPair «fs_khz» «nb_subfr» complexity d j ⌝ }
+    ensures { λ r. ⌜ r ≡ reached «fs_khz» «nb_subfr» d j ⌝ }
 {
-    d as i32 + silk_tables::lag_cb(nb_subfr, complexity, 0, j) <= (18 * fs_khz) as i32
+    d as i32 + silk_tables::lag_cb(nb_subfr, complexity, 0, j)
+        <= silk_tables::greatest_lag(fs_khz) as i32
 }
 
 // One pair more. Its reach is looked at last: few pairs score higher than the best so far.
 fn consider(
-    best: Best,
+    best: BestSoFar,
     cross_corr: i32,
     energy: i32,
     contour_bias_q15: i32,
@@ -106,35 +115,35 @@ fn consider(
     nb_subfr: usize,
     complexity: usize,
     fs_khz: usize,
-) -> Search
+) -> SearchState
     requires { ⌜ (pos 0 ≤ℤ «contour_bias_q15») × («contour_bias_q15» ≤ℤ pos 68) ⌝ }
-    requires { ⌜ TableSettings «nb_subfr» complexity × ((j < in-use «nb_subfr» complexity) × ((d ≤ 288) × («fs_khz» ≤ 16))) ⌝ }
-    ensures { λ r. ⌜ r ≡ considered best «cross_corr» energy «contour_bias_q15» d j (leZ (pos d +ℤ offset «nb_subfr» 0 j) (pos (18 * «fs_khz»))) ⌝ }
+    requires { ⌜ TriedPair «fs_khz» «nb_subfr» complexity d j ⌝ }
+    ensures { λ r. ⌜ r ≡ considered best «cross_corr» energy «contour_bias_q15» d j (reached «fs_khz» «nb_subfr» d j) ⌝ }
 {
     if cross_corr > 0 {
         let Quotient::Value(q) = silk_div32_varq(cross_corr, energy, 14) else {
-            return Search::Stopped;
+            return SearchState::Stopped;
         };
         let cc_max_new = mark_down(q, contour_bias_q15, j);
         let top = best.top;
         if cc_max_new > top {
             if in_reach(d, nb_subfr, complexity, j, fs_khz) {
-                return Search::Going(Best {
+                return SearchState::Going(BestSoFar {
                     top: cc_max_new,
                     lag: d,
                     contour: j,
                 });
             }
         }
-        Search::Going(best)
+        SearchState::Going(best)
     } else {
-        Search::Going(best)
+        SearchState::Going(best)
     }
 }
 
 // All contours of the lag d.
 fn scan_contours(
-    best: Best,
+    best: BestSoFar,
     cross_corr_st3: &[[[i32; 5]; 34]; 4],
     energies_st3: &[[[i32; 5]; 34]; 4],
     energy_target: i32,
@@ -144,11 +153,11 @@ fn scan_contours(
     nb_subfr: usize,
     complexity: usize,
     fs_khz: usize,
-) -> Search
+) -> SearchState
     requires { ⌜ Scanned «contour_bias_q15» lag «nb_subfr» complexity «fs_khz» ⌝ }
     requires { ⌜ (first-tried «fs_khz» lag ≤ d) × (d ≤ last-tried «fs_khz» lag) ⌝ }
-    requires { ⌜ Upto (now «cross_corr_st3») (now «energies_st3») «energy_target» «fs_khz» «nb_subfr» complexity lag ((d - first-tried «fs_khz» lag) * in-use «nb_subfr» complexity) best ⌝ }
-    ensures { λ r. ⌜ UptoOr (now («cross_corr_st3» .entry)) (now («energies_st3» .entry)) «energy_target» «fs_khz» «nb_subfr» complexity lag ((d + 1 - first-tried «fs_khz» lag) * in-use «nb_subfr» complexity) r ⌝ }
+    requires { ⌜ BestOfFirst (array-choice (now «cross_corr_st3») (now «energies_st3») «energy_target» «fs_khz» «nb_subfr» complexity lag) ((d - first-tried «fs_khz» lag) * in-use «nb_subfr» complexity) best ⌝ }
+    ensures { λ r. ⌜ AfterFirst (array-choice (now («cross_corr_st3» .entry)) (now («energies_st3» .entry)) «energy_target» «fs_khz» «nb_subfr» complexity lag) ((d + 1 - first-tried «fs_khz» lag) * in-use «nb_subfr» complexity) r ⌝ }
 {
     let lag_counter = d - start_lag(fs_khz, lag);
     let nb_cbk_search = silk_tables::nb_cbk_search(nb_subfr, complexity);
@@ -156,7 +165,7 @@ fn scan_contours(
     for j in 0..nb_cbk_search {
         let cross_corr = sum_subframes(0, cross_corr_st3, nb_subfr, j, lag_counter);
         let energy = sum_subframes(energy_target, energies_st3, nb_subfr, j, lag_counter);
-        let Search::Going(next) = consider(
+        let SearchState::Going(next) = consider(
             now_best,
             cross_corr,
             energy,
@@ -167,11 +176,11 @@ fn scan_contours(
             complexity,
             fs_khz,
         ) else {
-            return Search::Stopped;
+            return SearchState::Stopped;
         };
         now_best = next;
     }
-    Search::Going(now_best)
+    SearchState::Going(now_best)
 }
 
 // All lags near the winner, rising.
@@ -186,17 +195,17 @@ fn scan_lags(
     fs_khz: usize,
 ) -> Found
     requires { ⌜ Scanned «contour_bias_q15» lag «nb_subfr» complexity «fs_khz» ⌝ }
-    ensures { λ r. ⌜ r ≡ picked (now («cross_corr_st3» .entry)) (now («energies_st3» .entry)) «energy_target» «fs_khz» «nb_subfr» complexity lag ⌝ }
+    ensures { λ r. ⌜ r ≡ pick (array-choice (now («cross_corr_st3» .entry)) (now («energies_st3» .entry)) «energy_target» «fs_khz» «nb_subfr» complexity lag) ⌝ }
 {
     let first = start_lag(fs_khz, lag);
     let end = end_lag(fs_khz, lag) + 1;
-    let mut best = Best {
+    let mut best = BestSoFar {
         top: -2147483648,
         lag: lag,
         contour: 0,
     };
     for d in first..end {
-        let Search::Going(next) = scan_contours(
+        let SearchState::Going(next) = scan_contours(
             best,
             cross_corr_st3,
             energies_st3,
@@ -231,7 +240,7 @@ fn target_energy(frame: &[i16], nb_subfr: usize, fs_khz: usize) -> i32
     )
 }
 
-// Stage 3: the pair, or a zero divisor.
+// Stage 3 for a working frame and the winner of stage 2 scaled to its rate: the pair of a lag and a contour, or a zero divisor.
 pub fn search_stage3(
     frame: &[i16],
     lag: usize,

@@ -11,6 +11,7 @@ use Rattle.zint.specs.RuleLaws.{zneeds}
 use Rattle.pitch_settings.specs.SettingsLaws.{accepted-settings}
 use Rattle.silk_tables.specs.Stage2Laws.{contours2-bounds}
 use Rattle.silk_tables.specs.TableLaws.{in-use-bounds}
+use Rattle.silk_tables.specs.ContourLaws.{greatest-lag-le}
 use Rattle.stage3.specs.Stage3.{stage3}
 use Rattle.stage3.specs.declared.Found.{Found}
 use Rattle.stage3.specs.declared.Found.the-variants.{Pair, ZeroDivisor}
@@ -67,7 +68,7 @@ voiced-requires-2 c κs =
     let h = handed (s .args .s) (s .args .w .now) (s .pre .0) (s .pre .1 .0) (s .args .lag) (s .args .contour) (s .pre .1 .1) g in
     let p = stage3-range (s .args .s) (s .args .w .now) (s .pre .0) (s .pre .1 .0) (s .args .lag) (s .args .contour) (s .pre .1 .1) g _ _ (sym (found d) ∙ f .found .given .1) in
     let u = in-use-bounds (h .settings) in
-    (h .rate-high, (p .1 .0, omega (arith, p .1 .1)))
+    (h .rate-high, (omega (arith, p .1 .0, greatest-lag-le (s .args .s .rate) (h .rate-low)), omega (arith, p .1 .1)))
 
 returns-3 : tie.Need-returns-3
 returns-3 c =

@@ -1,18 +1,30 @@
--- `silk_tables::greatest_index` meets its contract: the number by the code's two tests.
-use mathlib.Core.Path.{refl, sym}
-use borrow.Author.Tests.{eq-eqb, ne-eqb}
-use Rattle.silk_tables.specs.ContourLaws.{greatest-by}
+-- `silk_tables::greatest_index` meets its contract.
+use mathlib.Core.Path.{sym, ap, ap₂, _∙_, subst}
+use native.Mathlib.Omega.{arith}
+use Prim.Native.Nat.{ℕ, _-_, _≤_}
+use Rattle.silk_tables.specs.Tables.{greatest-index, greatest-lag, least-lag, known-rate}
+use Rattle.silk_tables.specs.ContourLaws.{rate-span}
+use borrow.Author.Needs.{needs}
 use Rattle.silk_tables.proofs.greatest_index.Statement.{statement}
 use Rattle.silk_tables.proofs.greatest_index.Tie as tie
 
+greatest-lag-requires : tie.Need-greatest-lag-requires
+greatest-lag-requires c κs = omega (arith, c .known-rate .ensures, rate-span (c .before .args .fs-khz) .0)
+
+least-lag-requires : tie.Need-least-lag-requires
+least-lag-requires c κs = omega (arith, c .before .known-rate .ensures, rate-span (c .before .before .args .fs-khz) .0)
+
+sub-result : tie.Need-sub-result
+sub-result c =
+    let r = c .before .before .known-rate in
+    let p = subst (λ (n : ℕ). least-lag n ≤ greatest-lag n) (sym (r .ensures)) (rate-span (c .before .before .before .args .fs-khz) .1) in
+    omega (arith, c .least-lag .ensures, c .before .greatest-lag .ensures, p)
+
 returns : tie.Need-returns
-returns c = let fs = c .before .args .fs-khz in sym (greatest-by fs (eq-eqb fs 8 (c .if1 .taken)) refl)
-
-returns-2 : tie.Need-returns-2
-returns-2 c = let fs = c .before .before .args .fs-khz in sym (greatest-by fs (ne-eqb fs 8 (c .before .if1 .left)) (eq-eqb fs 12 (c .if2 .taken)))
-
-returns-3 : tie.Need-returns-3
-returns-3 c = let fs = c .before .before .args .fs-khz in sym (greatest-by fs (ne-eqb fs 8 (c .before .if1 .left)) (ne-eqb fs 12 (c .if2 .left)))
+unfolding greatest-index
+returns c = ap₂ _-_ (c .before .greatest-lag .ensures) (c .least-lag .ensures) ∙ ap (λ (n : ℕ). greatest-lag n - least-lag n) (c .before .before .known-rate .ensures)
 
 pub greatest-index-spec : {M : Type 1} → statement M
-greatest-index-spec = tie.close (tie.spec returns returns-2 returns-3)
+greatest-index-spec =
+    tie.close
+    (tie.spec (λ c κs. search needs) greatest-lag-requires least-lag-requires sub-result returns)

@@ -10,9 +10,9 @@ use mir.Val.{toZ, ofZ}
 use Rattle.zint.specs.ReadLaws.{r-var, r-got, r-holds, t-above, via-lt}
 use Rattle.silk_tables.specs.TableLaws.{in-use-bounds}
 use Rattle.stage3.specs.Pick.{quotient-of, biased}
-use Rattle.stage3.specs.Searched.{stopped, better, lower, beyond, passed}
+use Rattle.stage3.specs.SearchLaws.{stopped, better, lower, beyond, passed}
 use Rattle.silk_macros.specs.declared.Quotient.the-variants.{Value}
-use Rattle.stage3.specs.declared.Search.the-variants.{Going}
+use Rattle.stage3.specs.declared.SearchState.the-variants.{Going}
 use Rattle.zint.specs.RuleLaws.{zneeds}
 use Rattle.stage3.proofs.consider.Statement.{statement}
 use Rattle.stage3.proofs.consider.Tie as tie
@@ -52,8 +52,8 @@ returns c = sym (stopped _ _ _ _ _ _ _ (positive (c .before .before .before)) (s
 mark-down-requires : tie.Need-mark-down-requires
 mark-down-requires c κs =
     let s = c .before .before .before .before .before in
-    let u = in-use-bounds (s .pre .1 .0) in
-    let h : s .args .j < 34 = omega arith in
+    let u = in-use-bounds (s .pre .1 .settings) in
+    let h : s .args .j < 34 = omega (arith, u, s .pre .1 .used) in
     r-holds (λ (x : ℤ). (pos 0 ≤ℤ x) × ((x ≤ℤ pos 68) × (s .args .j < 34))) (r-var (s .fits .contour-bias-q15)) (s .pre .0 .0, (s .pre .0 .1, h))
 
 returns-2 : tie.Need-returns-2

@@ -1,28 +1,33 @@
 -- `stage3::scan_contours` meets its contract. The invariant: what is known after the pairs of the earlier lags and of the contours below j.
-use Rattle.stage3.specs.declared.Search.the-variants.{Stopped}
+use Rattle.stage3.specs.declared.SearchState.the-variants.{Stopped}
 use mathlib.Core.Path.{_≡_, sym, ap, _∙_, subst, subst₂}
 use Prim.Native.Nat.{ℕ, _+_, _-_, _*_, _≤_, _<_}
-use lib.IntN.{ℤ, pos, _+ℤ_}
-use lib.Signed.{leZ, _≤ℤ_}
+use lib.IntN.{ℤ, pos}
+use lib.Signed.{_≤ℤ_}
 use mir.Syntax.{w32}
 use mir.Val.{toZ, ofZ}
 use Rattle.zint.specs.ReadLaws.{r-var, r-got, r-as, r-holds}
-use Rattle.silk_tables.specs.Tables.{in-use, offset}
+use Rattle.silk_tables.specs.Tables.{in-use}
 use Rattle.silk_tables.specs.TableLaws.{in-use-bounds}
-use Rattle.stage3.specs.Pick.{first-tried}
+use Rattle.stage3.specs.Pick.{Choice, first-tried, reached}
 use Rattle.stage3.specs.Stage3.{sat-sum}
 use Rattle.stage3.specs.PickLaws.{bias-low, bias-high, few-lags, last-le, row-end}
-use Rattle.stage3.specs.Searched.{considered, at3, summed, Upto, UptoOr, searched-turn, stopped-more}
+use Rattle.stage3.specs.Search.{considered, at3, summed, array-choice, BestOfFirst, AfterFirst}
+use Rattle.stage3.specs.SearchLaws.{searched-turn, stopped-more}
 use Rattle.zint.specs.RuleLaws.{zneeds}
 use native.Mathlib.Omega.{arith}
 use Rattle.stage3.proofs.scan_contours.Statement.{statement}
 use Rattle.stage3.proofs.scan_contours.Tie as tie
 
 abbrev Inv-loop : tie.InvT-loop
-Inv-loop cross-corr-st3 energies-st3 energy-target contour-bias-q15 lag d nb-subfr complexity fs-khz lag-counter nb-cbk-search now-best₀ j₀ now-best j = (nb-cbk-search ≡ in-use nb-subfr complexity) × ((lag-counter ≡ d - first-tried fs-khz lag) × ((j ≤ in-use nb-subfr complexity) × Upto cross-corr-st3 energies-st3 (toZ w32 energy-target) fs-khz nb-subfr complexity lag ((d - first-tried fs-khz lag) * in-use nb-subfr complexity + j) now-best))
+Inv-loop cross-corr-st3 energies-st3 energy-target contour-bias-q15 lag d nb-subfr complexity fs-khz lag-counter nb-cbk-search now-best₀ j₀ now-best j = (nb-cbk-search ≡ in-use nb-subfr complexity) × ((lag-counter ≡ d - first-tried fs-khz lag) × ((j ≤ in-use nb-subfr complexity) × BestOfFirst (array-choice cross-corr-st3 energies-st3 (toZ w32 energy-target) fs-khz nb-subfr complexity lag) ((d - first-tried fs-khz lag) * in-use nb-subfr complexity + j) now-best))
 
 abbrev μ-loop : tie.MeasureT-loop
 μ-loop cross-corr-st3 energies-st3 energy-target contour-bias-q15 lag d nb-subfr complexity fs-khz lag-counter nb-cbk-search now-best₀ j₀ now-best j = in-use nb-subfr complexity - j
+
+-- what the search chooses from, with the target energy as it is read
+abbrev chosen : tie.Start Inv-loop μ-loop → ℤ → Choice
+chosen s z = array-choice (s .args .cross-corr-st3 .now) (s .args .energies-st3 .now) z (s .args .fs-khz) (s .args .nb-subfr) (s .args .complexity) (s .args .lag)
 
 -- a turn: what `consider` answers is what is known after one pair more
 module _ (c : tie.After-consider Inv-loop μ-loop) where
@@ -32,7 +37,7 @@ module _ (c : tie.After-consider Inv-loop μ-loop) where
   abbrev loop-at : tie.At-loop Inv-loop μ-loop
   loop-at = c .before .before .before .before
 
-  went : UptoOr (start .args .cross-corr-st3 .now) (start .args .energies-st3 .now) (toZ w32 (ofZ w32 (start .args .energy-target))) (start .args .fs-khz) (start .args .nb-subfr) (start .args .complexity) (start .args .lag)
+  went : AfterFirst (chosen start (toZ w32 (ofZ w32 (start .args .energy-target))))
       ((start .args .d - first-tried (start .args .fs-khz) (start .args .lag)) * in-use (start .args .nb-subfr) (start .args .complexity) + (loop-at .loop .j + 1)) (c .consider .result)
   unfolding summed
   went =
@@ -47,11 +52,11 @@ module _ (c : tie.After-consider Inv-loop μ-loop) where
       let ex = r-got w32 (x .ok) (x .ensures ∙ ap (λ (n : ℕ). sat-sum (pos 0) (λ (k : ℕ). at3 (a .cross-corr-st3 .now) k j n) (a .nb-subfr)) m) .val in
       let ey = r-got w32 (y .ok) (y .ensures ∙ ap (λ (n : ℕ). sat-sum (toZ w32 (ofZ w32 (a .energy-target))) (λ (k : ℕ). at3 (a .energies-st3 .now) k j n) (a .nb-subfr)) m) .val in
       let eb = r-var (start .fits .contour-bias-q15) .val ∙ r .0 .bias-is in
-      searched-turn _ _ (a .fs-khz) (a .nb-subfr) (a .complexity) (a .lag) (a .d) j (r .1 .0 .0) h (loop-at .loop .now-best) (i .1 .1 .1) (c .consider .result)
-      (c .consider .ensures ∙ (λ t. considered (loop-at .loop .now-best) (ex t) (ey t) (eb t) (a .d) j (leZ (pos (a .d) +ℤ offset (a .nb-subfr) 0 j) (pos (18 * a .fs-khz)))))
+      searched-turn (chosen start (toZ w32 (ofZ w32 (a .energy-target)))) (a .d) j (r .1 .0 .0) h (loop-at .loop .now-best) (i .1 .1 .1) (c .consider .result)
+      (c .consider .ensures ∙ (λ t. considered (loop-at .loop .now-best) (ex t) (ey t) (eb t) (a .d) j (reached (a .fs-khz) (a .nb-subfr) (a .d) j)))
 
 start-lag-requires : tie.Need-start-lag-requires Inv-loop μ-loop
-start-lag-requires c κs = let r = c .pre .0 in (r .rate-low, (r .rate-high, (r .lag-low, r .lag-high)))
+start-lag-requires c κs = let r = c .pre .0 in (r .rate-high, omega (arith, r .rate-low, r .lag-low))
 
 sub-lag-counter : tie.Need-sub-lag-counter Inv-loop μ-loop
 sub-lag-counter c = omega (arith, c .before .pre .1 .0)
@@ -64,7 +69,7 @@ loop-holds c =
     let s = c .before .before in
     let a = s .args in
     let n : (a .d - first-tried (a .fs-khz) (a .lag)) * in-use (a .nb-subfr) (a .complexity) ≡ (a .d - first-tried (a .fs-khz) (a .lag)) * in-use (a .nb-subfr) (a .complexity) + 0 = omega arith in
-    let k = subst₂ (λ (z : ℤ) (m : ℕ). Upto (a .cross-corr-st3 .now) (a .energies-st3 .now) z (a .fs-khz) (a .nb-subfr) (a .complexity) (a .lag) m (a .best)) (sym (r-var (s .fits .energy-target) .val)) n (s .pre .1 .1) in
+    let k = subst₂ (λ (z : ℤ) (m : ℕ). BestOfFirst (chosen s z) m (a .best)) (sym (r-var (s .fits .energy-target) .val)) n (s .pre .1 .1) in
     (c .nb-cbk-search .ensures, (ap (λ (x : ℕ). a .d - x) (c .before .start-lag .ensures), (search zneeds, k)))
 
 sum-subframes-requires : tie.Need-sum-subframes-requires Inv-loop μ-loop
@@ -89,8 +94,8 @@ consider-requires c κs =
     let a = t .args in
     let l = last-le (a .fs-khz) (a .lag) in
     let b = r-as (r-var (t .fits .contour-bias-q15)) (r .0 .bias-is) in (
-      r-holds (λ (x : ℤ). (pos 0 ≤ℤ x) × (x ≤ℤ pos 68)) b (bias-low (a .lag), bias-high (a .lag) (omega (arith, r .0))),
-      (r .0 .settings, (omega arith, (omega (arith, r .1 .0, r .0), omega (arith, r .0)))),
+      r-holds (λ (x : ℤ). (pos 0 ≤ℤ x) × (x ≤ℤ pos 68)) b (bias-low (a .lag), bias-high (a .lag) (omega (arith, r .0 .rate-low, r .0 .lag-low))),
+      record { settings = r .0 .settings; rate-low = r .0 .rate-low; rate-high = r .0 .rate-high; lag-high = omega (arith, r .1 .0, l); used = omega (arith, s .loop .inv .0, c .before .before .loop-test .taken) },
     )
 
 returns : tie.Need-returns Inv-loop μ-loop
@@ -99,17 +104,17 @@ returns c =
     let t = start d in
     let a = t .args in
     let s = loop-at d in
-    let x = subst (UptoOr _ _ _ _ _ _ _ _) (c .enum-told .given .1) (went d) in
+    let x = subst (AfterFirst _ _) (c .enum-told .given .1) (went d) in
     let e = row-end (a .d) (first-tried (a .fs-khz) (a .lag)) (in-use (a .nb-subfr) (a .complexity)) (t .pre .1 .0 .0) in
     let h : s .loop .j < in-use (a .nb-subfr) (a .complexity) = omega arith in
-    let y = stopped-more _ _ (a .fs-khz) (a .nb-subfr) (a .complexity) (a .lag) _ ((a .d + 1 - first-tried (a .fs-khz) (a .lag)) * in-use (a .nb-subfr) (a .complexity)) (omega arith) x in
-    subst (λ (z : ℤ). UptoOr (a .cross-corr-st3 .now) (a .energies-st3 .now) z (a .fs-khz) (a .nb-subfr) (a .complexity) (a .lag) ((a .d + 1 - first-tried (a .fs-khz) (a .lag)) * in-use (a .nb-subfr) (a .complexity)) Stopped) (r-var (t .fits .energy-target) .val) y
+    let y = stopped-more (chosen t (toZ w32 (ofZ w32 (a .energy-target)))) _ ((a .d + 1 - first-tried (a .fs-khz) (a .lag)) * in-use (a .nb-subfr) (a .complexity)) (omega arith) x in
+    subst (λ (z : ℤ). AfterFirst (chosen t z) ((a .d + 1 - first-tried (a .fs-khz) (a .lag)) * in-use (a .nb-subfr) (a .complexity)) Stopped) (r-var (t .fits .energy-target) .val) y
 
 loop-again : tie.Need-loop-again Inv-loop μ-loop
 loop-again c =
     let d = c .before .before .before in
     let s = loop-at d in
-    (s .loop .inv .0, (s .loop .inv .1 .0, (omega arith, subst (UptoOr _ _ _ _ _ _ _ _) (c .before .next .given .1) (went d))))
+    (s .loop .inv .0, (s .loop .inv .1 .0, (omega arith, subst (AfterFirst _ _) (c .before .next .given .1) (went d))))
 
 returns-2 : tie.Need-returns-2 Inv-loop μ-loop
 returns-2 c =
@@ -118,7 +123,7 @@ returns-2 c =
     let a = t .args in
     let e = row-end (a .d) (first-tried (a .fs-khz) (a .lag)) (in-use (a .nb-subfr) (a .complexity)) (t .pre .1 .0 .0) in
     let n : (a .d - first-tried (a .fs-khz) (a .lag)) * in-use (a .nb-subfr) (a .complexity) + s .loop .j ≡ (a .d + 1 - first-tried (a .fs-khz) (a .lag)) * in-use (a .nb-subfr) (a .complexity) = omega arith in
-    subst₂ (λ (z : ℤ) (m : ℕ). Upto (a .cross-corr-st3 .now) (a .energies-st3 .now) z (a .fs-khz) (a .nb-subfr) (a .complexity) (a .lag) m (s .loop .now-best)) (r-var (t .fits .energy-target) .val) n (s .loop .inv .1 .1 .1)
+    subst₂ (λ (z : ℤ) (m : ℕ). BestOfFirst (chosen t z) m (s .loop .now-best)) (r-var (t .fits .energy-target) .val) n (s .loop .inv .1 .1 .1)
 
 pub scan-contours-spec : {M : Type 1} → statement M
 scan-contours-spec =

@@ -7,7 +7,7 @@ use mir.Val.{toZ, ofZ}
 use Rattle.zint.specs.ReadLaws.{r-var, r-got, r-elem}
 use Rattle.zint.specs.Clamp.{sat}
 use Rattle.stage3.specs.Stage3.{sat-sum}
-use Rattle.stage3.specs.Searched.{at3}
+use Rattle.stage3.specs.Search.{at3}
 use Rattle.stage3.specs.PickLaws.{sat-sum-next}
 use Rattle.zint.specs.RuleLaws.{zneeds}
 use native.Mathlib.Omega.{arith}

@@ -1,4 +1,4 @@
--- `stage3_arrays::spread` meets its contract. The invariant: the rows are filled below i.
+-- `stage3_arrays::spread` meets its contract. The invariant: the subframe-array are filled below i.
 use mathlib.Core.Path.{_≡_, sym, ap, ap₂, _∙_, subst}
 use mathlib.Core.List.{List}
 use Prim.Native.Nat.{ℕ, _+_, _-_, _≤_}
@@ -10,7 +10,7 @@ use Rattle.zint.specs.ReadLaws.{r-elem, r-var}
 use Rattle.zint.specs.RuleLaws.{zneeds}
 use Rattle.lists.specs.Fill.{tabulate, filled}
 use Rattle.lists.specs.FillLaws.{filled-none, filled-turn}
-use Rattle.stage3_arrays.specs.Arrays.{rows, Placed}
+use Rattle.stage3_arrays.specs.Arrays.{subframe-array, Placed}
 use native.Mathlib.Omega.{arith}
 use Rattle.stage3_arrays.proofs.spread.Statement.{statement}
 use Rattle.stage3_arrays.proofs.spread.Tie as tie
@@ -66,7 +66,7 @@ loop-again c =
     )
 
 returns : tie.Need-returns Inv-loop μ-loop
-unfolding rows
+unfolding subframe-array
 returns c =
     let s = c .before in
     let a = s .before .args in
