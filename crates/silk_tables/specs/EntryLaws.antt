@@ -1,9 +1,11 @@
 -- Bounds of a table's entries, by one computed test over the table; past the table's end 0 is read, so the bounds hold at every row and column. And what the code reads
 -- of an entry.
-use mathlib.Core.Path.{_≡_, refl}
-use mathlib.Core.Bool.{Bool, true, _&&_}
+use mathlib.Core.Path.{_≡_, refl, ap}
+use mathlib.Core.Bool.{Bool, true, _&&_, cond}
 use mathlib.Core.List.{List, [], _∷_}
 use Prim.Native.Nat.{ℕ, zero, suc, _^_, _<_}
+use lib.Dec.{eqb}
+use borrow.Author.Tests.{eq-eqb, ne-eqb}
 use lib.IntN.{ℤ, pos}
 use lib.ListN.{getD}
 use lib.Signed.{mag, leZ, _≤ℤ_}
@@ -49,6 +51,15 @@ module _ (lo hi : ℤ) (rows : List (List ℤ)) (e : table-within lo hi rows ≡
   pub entry-le : entry rows k j ≤ℤ hi
   unfolding within
   entry-le = le-true (entry rows k j) hi (and-right (leZ lo (entry rows k j)) (leZ (entry rows k j) hi) entry-in)
+
+-- ---- an entry of the table that the subframe count chooses, of one for four subframes and one for two
+
+module _ (t u : List (List ℤ)) (nb k j : ℕ) where
+  pub entry-4 : nb ≡ 4 → entry (cond (eqb nb 4) t u) k j ≡ entry t k j
+  entry-4 e = ap (λ (b : Bool). entry (cond b t u) k j) (eq-eqb nb 4 e)
+
+  pub entry-2 : (nb ≡ 4 → ⊥) → entry (cond (eqb nb 4) t u) k j ≡ entry u k j
+  entry-2 g = ap (λ (b : Bool). entry (cond b t u) k j) (ne-eqb nb 4 g)
 
 -- ---- an entry that is read and widened: that it fits, and what it is
 pub wide-fits : (z : ℤ) → mag z < 2 ^ hbits w8 → SFits w32 (toZ w8 (ofZ w8 z))

@@ -1,14 +1,12 @@
 -- The bounds of stage 2's offsets, tested once over each table, and the tables and counts that the settings choose.
 use mathlib.Core.Path.{_≡_, refl, sym, ap, _∙_}
 use mathlib.Core.Bool.{Bool, true, false, _&&_, cond, and-false}
-use mathlib.Core.List.{[]}
 use Prim.Native.Nat.{ℕ, _+_, _≤_}
 use lib.Dec.{eqb, ltb, lit≤}
 use borrow.Author.Tests.{ne-eqb}
 use lib.IntN.{pos, negsuc, _+ℤ_}
 use mir.Syntax.{w32}
 use mir.Val.{SFits}
-use lib.ListN.{getD}
 use lib.Signed.{_≤ℤ_}
 use Rattle.zint.specs.ShiftLaws.{nonneg-abs}
 use Rattle.zint.specs.DiffLaws.{v, n as num, _⊕_, le-by, sfits-by, eq-in, zarith}
@@ -16,14 +14,6 @@ use Rattle.silk_tables.specs.EntryLaws.{table-within, all-of, within, en
 use Rattle.silk_tables.specs.Tables.{cb-lags-stage2, cb-lags-stage2-10-ms, entries2, contours2, offset2, moved-lag2}
 
 -- ---- the tables and counts that the settings choose
-
-pub offset2-4 : (nb k j : ℕ) → nb ≡ 4 → offset2 nb k j ≡ getD (getD cb-lags-stage2 k []) j (pos 0)
-unfolding offset2
-offset2-4 nb k j e = ap (λ (m : ℕ). offset2 m k j) e
-
-pub offset2-other : (nb k j : ℕ) → (nb ≡ 4 → ⊥) → offset2 nb k j ≡ getD (getD cb-lags-stage2-10-ms k []) j (pos 0)
-unfolding offset2
-offset2-other nb k j g = ap (λ (t : Bool). getD (getD (cond t cb-lags-stage2 cb-lags-stage2-10-ms) k []) j (pos 0)) (ne-eqb nb 4 g)
 
 pub entries2-4 : (nb : ℕ) → nb ≡ 4 → entries2 nb ≡ 11
 unfolding entries2

@@ -33,13 +33,13 @@ array-choice X E e fs nb cx lag =
     record { fs = fs; nb = nb; cx = cx; lag = lag; cross = summed (pos 0) X nb (first-tried fs lag); energy = summed e E nb (first-tried fs lag) }
 
 -- one pair more: the quotient is taken where the cross-correlation is positive
-abbrev pub valued : BestSoFar → ℤ → ℕ → ℕ → Bool → Quotient → SearchState
-valued b bias d j reach ByZero = Stopped
-valued b bias d j reach (Value q) =
+abbrev pub with-quotient : BestSoFar → ℤ → ℕ → ℕ → Bool → Quotient → SearchState
+with-quotient b bias d j reach ByZero = Stopped
+with-quotient b bias d j reach (Value q) =
     cond (reach && ltZ (b .top) (biased q bias j)) (Going (record { top = biased q bias j; lag = d; contour = j })) (Going b)
 
-unfoldable pub considered : BestSoFar → ℤ → ℤ → ℤ → ℕ → ℕ → Bool → SearchState
-considered b x e bias d j reach = cond (ltZ (pos 0) x) (valued b bias d j reach (quotient-of x e)) (Going b)
+unfoldable pub with-pair : BestSoFar → ℤ → ℤ → ℤ → ℕ → ℕ → Bool → SearchState
+with-pair b x e bias d j reach = cond (ltZ (pos 0) x) (with-quotient b bias d j reach (quotient-of x e)) (Going b)
 
 -- what a scan is handed
 pub record Scanned (bias : ℤ) (lag nb cx fs : ℕ) : Type 0 where

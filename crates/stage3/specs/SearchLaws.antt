@@ -31,30 +31,30 @@ use Rattle.stage3.specs.declared.SearchState.{SearchState}
 use Rattle.stage3.specs.declared.SearchState.the-variants.{Going, Stopped}
 use Rattle.stage3.specs.Pick.{Choice, first-tried, last-tried, tried, quotient-of, bias-of, biased, score-of, used-in, zero-reached3, reached, candidate, score, zero-no, candidate-no, score-no, lag-no, contour-no, pair-count, pair-at, zero3, best3, pick}
 use Rattle.stage3.specs.Stage3.{sat-sum, energy-target, cross3, energy3, stage3, Handed}
-use Rattle.stage3.specs.Search.{summed, array-choice, valued, considered, BestOfFirst, AfterFirst}
+use Rattle.stage3.specs.Search.{summed, array-choice, with-quotient, with-pair, BestOfFirst, AfterFirst}
 use Rattle.stage3.specs.PickLaws.{score-above, sat-sum-ext, few-lags}
 
 -- ---- one pair more
 
 module _ (b : BestSoFar) (x e bias : ℤ) (d j : ℕ) (reach : Bool) where
-  pub passed : ltZ (pos 0) x ≡ false → considered b x e bias d j reach ≡ Going b
-  unfolding considered
-  passed h = ap (λ (t : Bool). cond t (valued b bias d j reach (quotient-of x e)) (Going b)) h
+  pub passed : ltZ (pos 0) x ≡ false → with-pair b x e bias d j reach ≡ Going b
+  unfolding with-pair
+  passed h = ap (λ (t : Bool). cond t (with-quotient b bias d j reach (quotient-of x e)) (Going b)) h
 
-  pub stopped : ltZ (pos 0) x ≡ true → quotient-of x e ≡ ByZero → considered b x e bias d j reach ≡ Stopped
-  unfolding considered
-  stopped h k = ap₂ (λ (t : Bool) (q : Quotient). cond t (valued b bias d j reach q) (Going b)) h k
+  pub stopped : ltZ (pos 0) x ≡ true → quotient-of x e ≡ ByZero → with-pair b x e bias d j reach ≡ Stopped
+  unfolding with-pair
+  stopped h k = ap₂ (λ (t : Bool) (q : Quotient). cond t (with-quotient b bias d j reach q) (Going b)) h k
 
   module _ (q : ℤ) (h : ltZ (pos 0) x ≡ true) (k : quotient-of x e ≡ Value q) where
-    divided : considered b x e bias d j reach ≡ valued b bias d j reach (Value q)
-    unfolding considered
-    divided = ap₂ (λ (t : Bool) (q : Quotient). cond t (valued b bias d j reach q) (Going b)) h k
+    divided : with-pair b x e bias d j reach ≡ with-quotient b bias d j reach (Value q)
+    unfolding with-pair
+    divided = ap₂ (λ (t : Bool) (q : Quotient). cond t (with-quotient b bias d j reach q) (Going b)) h k
 
-    pub better : reach ≡ true → ltZ (b .top) (biased q bias j) ≡ true → considered b x e bias d j reach ≡ Going (record { top = biased q bias j; lag = d; contour = j })
+    pub better : reach ≡ true → ltZ (b .top) (biased q bias j) ≡ true → with-pair b x e bias d j reach ≡ Going (record { top = biased q bias j; lag = d; contour = j })
     better r l =
         divided ∙ ap₂ (λ (t u : Bool). cond (t && u) (Going (record { top = biased q bias j; lag = d; contour = j })) (Going b)) r l
 
-    pub lower : ltZ (b .top) (biased q bias j) ≡ false → considered b x e bias d j reach ≡ Going b
+    pub lower : ltZ (b .top) (biased q bias j) ≡ false → with-pair b x e bias d j reach ≡ Going b
     lower l =
         divided ∙ ap (λ (u : Bool). cond (reach && u) (Going (record { top = biased q bias j; lag = d; contour = j })) (Going b)) l ∙ no-less reach
       where
@@ -62,7 +62,7 @@ module _ (b : BestSoFar) (x e bias : ℤ) (d j : ℕ) (reach : Bool) where
         no-less true = refl
         no-less false = refl
 
-    pub beyond : reach ≡ false → considered b x e bias d j reach ≡ Going b
+    pub beyond : reach ≡ false → with-pair b x e bias d j reach ≡ Going b
     beyond r =
         divided ∙ ap (λ (t : Bool). cond (t && ltZ (b .top) (biased q bias j)) (Going (record { top = biased q bias j; lag = d; contour = j })) (Going b)) r
 
@@ -91,7 +91,7 @@ module _ (c : Choice) where
     reach = reached (c .fs) (c .nb) d j
 
     abbrev next : SearchState
-    next = considered b (c .cross d j) (c .energy d j) (bias-of (c .lag)) d j reach
+    next = with-pair b (c .cross d j) (c .energy d j) (bias-of (c .lag)) d j reach
 
     kept : candidate-no c n ≡ false → zero-no c n ≡ false → BestOfFirst c (n + 1) b
     kept e z =
@@ -189,13 +189,13 @@ module _ (c : Choice) where
     number-contour = digits-mod (d - first-tried (c .fs) (c .lag)) h
 
     -- one pair more, as a turn of a loop over the contours has it
-    pub searched-turn : (b : BestSoFar) → BestOfFirst c number b → (r : SearchState) → r ≡ considered b (c .cross d j) (c .energy d j) (bias-of (c .lag)) d j (reached (c .fs) (c .nb) d j)
+    pub searched-turn : (b : BestSoFar) → BestOfFirst c number b → (r : SearchState) → r ≡ with-pair b (c .cross d j) (c .energy d j) (bias-of (c .lag)) d j (reached (c .fs) (c .nb) d j)
         → AfterFirst c ((d - first-tried (c .fs) (c .lag)) * used-in c + (j + 1)) r
     searched-turn b s r e =
         let p = number-lag in
         let q = number-contour in
-        let same : considered b (c .cross (lag-no c number) (contour-no c number)) (c .energy (lag-no c number) (contour-no c number)) (bias-of (c .lag)) (lag-no c number) (contour-no c number) (reached (c .fs) (c .nb) (lag-no c number) (contour-no c number)) ≡ r =
-        ap₂ (λ (x y : ℕ). considered b (c .cross x y) (c .energy x y) (bias-of (c .lag)) x y (reached (c .fs) (c .nb) x y)) p q ∙ sym e in
+        let same : with-pair b (c .cross (lag-no c number) (contour-no c number)) (c .energy (lag-no c number) (contour-no c number)) (bias-of (c .lag)) (lag-no c number) (contour-no c number) (reached (c .fs) (c .nb) (lag-no c number) (contour-no c number)) ≡ r =
+        ap₂ (λ (x y : ℕ). with-pair b (c .cross x y) (c .energy x y) (bias-of (c .lag)) x y (reached (c .fs) (c .nb) x y)) p q ∙ sym e in
         let m : number + 1 ≡ (d - first-tried (c .fs) (c .lag)) * used-in c + (j + 1) = omega arith in
         subst (λ (n : ℕ). AfterFirst c n r) m (subst (AfterFirst c (number + 1)) same (searched-next number b s))
 

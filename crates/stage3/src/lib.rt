@@ -10,7 +10,7 @@ ghost use Rattle.answers.specs.Answer.{answer-numbers};
 ghost use Rattle.silk_tables.specs.Tables.{in-use};
 ghost use Rattle.stage3.specs.Pick.{first-tried, last-tried, biased, reached, pick};
 ghost use Rattle.stage3.specs.Stage3.{sat-sum, energy-target, stage3, found-numbers, stage3-verdict, stage3-values, Handed};
-ghost use Rattle.stage3.specs.Search.{considered, at3, array-choice, Scanned, TriedPair, BestOfFirst, AfterFirst};
+ghost use Rattle.stage3.specs.Search.{with-pair, at3, array-choice, Scanned, TriedPair, BestOfFirst, AfterFirst};
 use silk_macros::Quotient;
 use silk_macros::silk_add_sat32;
 use silk_macros::silk_div32_16;
@@ -118,7 +118,7 @@ fn consider(
 ) -> SearchState
     requires { ⌜ (pos 0 ≤ℤ «contour_bias_q15») × («contour_bias_q15» ≤ℤ pos 68) ⌝ }
     requires { ⌜ TriedPair «fs_khz» «nb_subfr» complexity d j ⌝ }
-    ensures { λ r. ⌜ r ≡ considered best «cross_corr» energy «contour_bias_q15» d j (reached «fs_khz» «nb_subfr» d j) ⌝ }
+    ensures { λ r. ⌜ r ≡ with-pair best «cross_corr» energy «contour_bias_q15» d j (reached «fs_khz» «nb_subfr» d j) ⌝ }
 {
     if cross_corr > 0 {
         let Quotient::Value(q) = silk_div32_varq(cross_corr, energy, 14) else {

@@ -1,9 +1,9 @@
 -- `silk_tables::lag_cb_stage2` meets its contract: a lookup in the table that nb chooses.
 use mathlib.Core.Path.{sym, _∙_}
-use Rattle.silk_tables.specs.Tables.{cb-lags-stage2, cb-lags-stage2-10-ms}
-use Rattle.silk_tables.specs.EntryLaws.{entry, wide-fits, wide-is}
+use Rattle.silk_tables.specs.Tables.{offset2, cb-lags-stage2, cb-lags-stage2-10-ms}
+use Rattle.silk_tables.specs.EntryLaws.{entry, entry-4, entry-2, wide-fits, wide-is}
 use Rattle.silk_tables.specs.TableLaws.{two-or}
-use Rattle.silk_tables.specs.Stage2Laws.{entries2-4, entries2-other, offset2-4, offset2-other}
+use Rattle.silk_tables.specs.Stage2Laws.{entries2-4, entries2-other}
 use borrow.Author.Needs.{needs}
 use native.Mathlib.Omega.{arith}
 use Rattle.silk_tables.proofs.lag_cb_stage2.Statement.{statement}
@@ -30,12 +30,12 @@ unfolding cb-lags-stage2-10-ms
 cast-result-2 c = let a = c .before .before .args in wide-fits (entry cb-lags-stage2-10-ms (a .k) (a .j)) (c .result2 .given)
 
 returns : tie.Need-returns
-unfolding cb-lags-stage2
-returns c = let a = c .before .before .args in wide-is _ (c .result .given) ∙ sym (offset2-4 (a .nb-subfr) (a .k) (a .j) (c .before .if1 .taken))
+unfolding offset2 cb-lags-stage2
+returns c = let a = c .before .before .args in wide-is _ (c .result .given) ∙ sym (entry-4 cb-lags-stage2 cb-lags-stage2-10-ms (a .nb-subfr) (a .k) (a .j) (c .before .if1 .taken))
 
 returns-2 : tie.Need-returns-2
-unfolding cb-lags-stage2-10-ms
-returns-2 c = let a = c .before .before .args in wide-is _ (c .result2 .given) ∙ sym (offset2-other (a .nb-subfr) (a .k) (a .j) (c .before .if1 .left))
+unfolding offset2 cb-lags-stage2-10-ms
+returns-2 c = let a = c .before .before .args in wide-is _ (c .result2 .given) ∙ sym (entry-2 cb-lags-stage2 cb-lags-stage2-10-ms (a .nb-subfr) (a .k) (a .j) (c .before .if1 .left))
 
 pub lag-cb-stage2-spec : {M : Type 1} → statement M
 lag-cb-stage2-spec =

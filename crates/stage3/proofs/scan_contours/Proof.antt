@@ -12,7 +12,7 @@ use Rattle.silk_tables.specs.TableLaws.{in-use-bounds}
 use Rattle.stage3.specs.Pick.{Choice, first-tried, reached}
 use Rattle.stage3.specs.Stage3.{sat-sum}
 use Rattle.stage3.specs.PickLaws.{bias-low, bias-high, few-lags, last-le, row-end}
-use Rattle.stage3.specs.Search.{considered, at3, summed, array-choice, BestOfFirst, AfterFirst}
+use Rattle.stage3.specs.Search.{with-pair, at3, summed, array-choice, BestOfFirst, AfterFirst}
 use Rattle.stage3.specs.SearchLaws.{searched-turn, stopped-more}
 use Rattle.zint.specs.RuleLaws.{zneeds}
 use native.Mathlib.Omega.{arith}
@@ -53,7 +53,7 @@ module _ (c : tie.After-consider Inv-loop μ-loop) where
       let ey = r-got w32 (y .ok) (y .ensures ∙ ap (λ (n : ℕ). sat-sum (toZ w32 (ofZ w32 (a .energy-target))) (λ (k : ℕ). at3 (a .energies-st3 .now) k j n) (a .nb-subfr)) m) .val in
       let eb = r-var (start .fits .contour-bias-q15) .val ∙ r .0 .bias-is in
       searched-turn (chosen start (toZ w32 (ofZ w32 (a .energy-target)))) (a .d) j (r .1 .0 .0) h (loop-at .loop .now-best) (i .1 .1 .1) (c .consider .result)
-      (c .consider .ensures ∙ (λ t. considered (loop-at .loop .now-best) (ex t) (ey t) (eb t) (a .d) j (reached (a .fs-khz) (a .nb-subfr) (a .d) j)))
+      (c .consider .ensures ∙ (λ t. with-pair (loop-at .loop .now-best) (ex t) (ey t) (eb t) (a .d) j (reached (a .fs-khz) (a .nb-subfr) (a .d) j)))
 
 start-lag-requires : tie.Need-start-lag-requires Inv-loop μ-loop
 start-lag-requires c κs = let r = c .pre .0 in (r .rate-high, omega (arith, r .rate-low, r .lag-low))

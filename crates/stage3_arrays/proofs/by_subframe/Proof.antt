@@ -7,15 +7,15 @@ use Rattle.lists.specs.Fill.{filled}
 use Rattle.lists.specs.FillLaws.{filled-none, filled-turn}
 use Rattle.silk_tables.specs.Tables.{in-use, first-lag}
 use Rattle.silk_tables.specs.ContourLaws.{greatest-lag-le}
-use Rattle.stage3_arrays.specs.Arrays.{target3 as start-of, subframe-array, frame-array, along, along-at}
-use Rattle.stage3_arrays.specs.ArrayLaws.{target-in, target-next, range-in, along-array}
+use Rattle.stage3_arrays.specs.Arrays.{target3 as start-of, subframe-array, frame-array, numbers-along, numbers-at}
+use Rattle.stage3_arrays.specs.ArrayLaws.{target-in, target-next, range-in, numbers-array}
 use Rattle.zint.specs.RuleLaws.{zneeds}
 use native.Mathlib.Omega.{arith}
 use Rattle.stage3_arrays.proofs.by_subframe.Statement.{statement}
 use Rattle.stage3_arrays.proofs.by_subframe.Tie as tie
 
 abbrev Inv-loop : tie.InvT-loop
-Inv-loop frame start-lag nb-subfr complexity fs-khz energies measured₀ sf-length target₀ k₀ measured target k = (k ≤ nb-subfr) × ((sf-length ≡ 5 * fs-khz) × ((target ≡ start-of fs-khz k) × (measured ≡ filled (λ (q : ℕ). subframe-array (in-use nb-subfr complexity) (along-at energies frame fs-khz nb-subfr complexity start-lag q)) k (replicate 4 (replicate 34 (replicate 5 (pos 0)))))))
+Inv-loop frame start-lag nb-subfr complexity fs-khz energies measured₀ sf-length target₀ k₀ measured target k = (k ≤ nb-subfr) × ((sf-length ≡ 5 * fs-khz) × ((target ≡ start-of fs-khz k) × (measured ≡ filled (λ (q : ℕ). subframe-array (in-use nb-subfr complexity) (numbers-at energies frame fs-khz nb-subfr complexity start-lag q)) k (replicate 4 (replicate 34 (replicate 5 (pos 0)))))))
 
 abbrev μ-loop : tie.MeasureT-loop
 μ-loop frame start-lag nb-subfr complexity fs-khz energies measured₀ sf-length target₀ k₀ measured target k = nb-subfr - k
@@ -30,8 +30,8 @@ lag-first-requires c κs = let r = c .before .before .pre in let u = greatest-la
 lag-count-requires : tie.Need-lag-count-requires Inv-loop μ-loop
 lag-count-requires c κs = let r = c .before .before .before .pre in (r .settings, omega arith)
 
-along-range-requires : tie.Need-along-range-requires Inv-loop μ-loop
-along-range-requires c κs =
+numbers-along-requires : tie.Need-numbers-along-requires Inv-loop μ-loop
+numbers-along-requires c κs =
     let s = c .before .before .before in
     range-in (s .before .pre) (c .before .before .loop-test .taken) (s .loop .inv .1 .1 .0) (c .before .lag-first .ensures) (s .loop .inv .1 .0) (c .lag-count .ensures)
 
@@ -61,15 +61,15 @@ loop-again c =
     let w = a .frame .now in
     let k = s .loop .k in
     let h : k < a .nb-subfr = omega arith in
-    let f : ℕ → _ = along (a .energies) w (start-of (a .fs-khz) k) (first-lag (a .nb-subfr) (a .complexity) k (a .start-lag)) (5 * a .fs-khz) in
-    let e = d .along-range .ensures ∙ (λ t. filled (along (a .energies) w (s .loop .inv .1 .1 .0 t) (d .before .before .lag-first .ensures t) (s .loop .inv .1 .0 t)) (d .before .lag-count .ensures t) (replicate 22 (pos 0))) in
-    let v = c .by-contour .ensures ∙ along-array (r .settings) h f (d .along-range .result) (replicate 22 (pos 0)) e in (
+    let f : ℕ → _ = numbers-along (a .energies) w (start-of (a .fs-khz) k) (first-lag (a .nb-subfr) (a .complexity) k (a .start-lag)) (5 * a .fs-khz) in
+    let e = d .numbers-along .ensures ∙ (λ t. filled (numbers-along (a .energies) w (s .loop .inv .1 .1 .0 t) (d .before .before .lag-first .ensures t) (s .loop .inv .1 .0 t)) (d .before .lag-count .ensures t) (replicate 22 (pos 0))) in
+    let v = c .by-contour .ensures ∙ numbers-array (r .settings) h f (d .numbers-along .result) (replicate 22 (pos 0)) e in (
       omega arith,
       (
         s .loop .inv .1 .0,
         (
           omega (arith, target-next (a .fs-khz) k),
-          filled-turn (λ (q : ℕ). subframe-array (in-use (a .nb-subfr) (a .complexity)) (along-at (a .energies) w (a .fs-khz) (a .nb-subfr) (a .complexity) (a .start-lag) q)) k (replicate 4 (replicate 34 (replicate 5 (pos 0)))) (s .loop .inv .1 .1 .1) v (omega arith),
+          filled-turn (λ (q : ℕ). subframe-array (in-use (a .nb-subfr) (a .complexity)) (numbers-at (a .energies) w (a .fs-khz) (a .nb-subfr) (a .complexity) (a .start-lag) q)) k (replicate 4 (replicate 34 (replicate 5 (pos 0)))) (s .loop .inv .1 .1 .1) v (omega arith),
         ),
       ),
     )
@@ -80,10 +80,10 @@ returns c =
     let s = c .before in
     let a = s .before .args in
     let e : s .loop .k ≡ a .nb-subfr = omega arith in
-    s .loop .inv .1 .1 .1 ∙ ap (λ (n : ℕ). filled (λ (q : ℕ). subframe-array (in-use (a .nb-subfr) (a .complexity)) (along-at (a .energies) (a .frame .now) (a .fs-khz) (a .nb-subfr) (a .complexity) (a .start-lag) q)) n (replicate 4 (replicate 34 (replicate 5 (pos 0))))) e
+    s .loop .inv .1 .1 .1 ∙ ap (λ (n : ℕ). filled (λ (q : ℕ). subframe-array (in-use (a .nb-subfr) (a .complexity)) (numbers-at (a .energies) (a .frame .now) (a .fs-khz) (a .nb-subfr) (a .complexity) (a .start-lag) q)) n (replicate 4 (replicate 34 (replicate 5 (pos 0))))) e
 
 pub by-subframe-spec : {M : Type 1} → statement M
 by-subframe-spec =
     tie.close
-    (tie.spec Inv-loop μ-loop (λ c. search zneeds) (λ c. search zneeds) loop-holds lag-first-requires lag-count-requires along-range-requires
+    (tie.spec Inv-loop μ-loop (λ c. search zneeds) (λ c. search zneeds) loop-holds lag-first-requires lag-count-requires numbers-along-requires
     by-contour-requires mul-measured array-set-from-measured add-target (λ c. search zneeds) (λ c. search zneeds) loop-again returns)
