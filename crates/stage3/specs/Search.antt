@@ -15,6 +15,7 @@ use Rattle.silk_macros.specs.declared.Quotient.{Quotient}
 use Rattle.silk_macros.specs.declared.Quotient.the-variants.{Value, ZeroDivisor as ByZero}
 use Rattle.stage3.specs.declared.Found.the-variants.{Pair}
 use Rattle.stage3.specs.declared.BestSoFar.{BestSoFar}
+use Rattle.stage3.specs.declared.PairSearch.{PairSearch}
 use Rattle.stage3.specs.declared.SearchState.{SearchState}
 use Rattle.stage3.specs.declared.SearchState.the-variants.{Going, Stopped}
 use Rattle.stage3.specs.Pick.{Choice, first-tried, quotient-of, bias-of, biased, zero-no, candidate-no, score-no, pair-at}
@@ -28,9 +29,16 @@ unfoldable pub summed : ℤ → List (List (List ℤ)) → ℕ → ℕ → ℕ �
 summed e a nb start d j = sat-sum e (λ k. at3 a k j (d - start)) nb
 
 -- what is chosen from where two nested arrays hold the cross-correlations X and the energies E, which are added to e
-abbrev pub array-choice : List (List (List ℤ)) → List (List (List ℤ)) → ℤ → ℕ → ℕ → ℕ → ℕ → Choice
-array-choice X E e fs nb cx lag =
-    record { fs = fs; nb = nb; cx = cx; lag = lag; cross = summed (pos 0) X nb (first-tried fs lag); energy = summed e E nb (first-tried fs lag) }
+abbrev pub array-choice : List (List (List ℤ)) → List (List (List ℤ)) → ℤ → PairSearch → Choice
+array-choice X E e by =
+    record {
+      fs = by .fs;
+      nb = by .nb;
+      cx = by .complexity;
+      lag = by .lag;
+      cross = summed (pos 0) X (by .nb) (first-tried (by .fs) (by .lag));
+      energy = summed e E (by .nb) (first-tried (by .fs) (by .lag));
+    }
 
 -- one pair more: the quotient is taken where the cross-correlation is positive
 abbrev pub with-quotient : BestSoFar → ℤ → ℕ → ℕ → Bool → Quotient → SearchState
@@ -42,21 +50,21 @@ unfoldable pub with-pair : BestSoFar → ℤ → ℤ → ℤ → ℕ → ℕ →
 with-pair b x e bias d j reach = cond (ltZ (pos 0) x) (with-quotient b bias d j reach (quotient-of x e)) (Going b)
 
 -- what a scan is handed
-pub record Scanned (bias : ℤ) (lag nb cx fs : ℕ) : Type 0 where
-  pub settings : TableSettings nb cx
-  pub rate-low : 12 ≤ fs
-  pub rate-high : fs ≤ 16
-  pub lag-low : least-lag fs ≤ lag
-  pub lag-high : lag ≤ greatest-lag fs
-  pub bias-is : bias ≡ bias-of lag
+pub record Scanned (bias : ℤ) (by : PairSearch) : Type 0 where
+  pub settings : TableSettings (by .nb) (by .complexity)
+  pub rate-low : 12 ≤ by .fs
+  pub rate-high : by .fs ≤ 16
+  pub lag-low : least-lag (by .fs) ≤ by .lag
+  pub lag-high : by .lag ≤ greatest-lag (by .fs)
+  pub bias-is : bias ≡ bias-of (by .lag)
 
 -- a pair that is tried: settings with tables, a contour in use, a lag up to the greatest
-pub record TriedPair (fs nb cx d j : ℕ) : Type 0 where
-  pub settings : TableSettings nb cx
-  pub rate-low : 12 ≤ fs
-  pub rate-high : fs ≤ 16
-  pub lag-high : d ≤ greatest-lag fs
-  pub used : j < in-use nb cx
+pub record TriedPair (by : PairSearch) (d j : ℕ) : Type 0 where
+  pub settings : TableSettings (by .nb) (by .complexity)
+  pub rate-low : 12 ≤ by .fs
+  pub rate-high : by .fs ≤ 16
+  pub lag-high : d ≤ greatest-lag (by .fs)
+  pub used : j < in-use (by .nb) (by .complexity)
 
 -- after n pairs: b has the best of them, and no divisor was zero
 pub record BestOfFirst (c : Choice) (n : ℕ) (b : BestSoFar) : Type 0 where

@@ -27,11 +27,13 @@ use Rattle.silk_macros.specs.declared.Quotient.{Quotient}
 use Rattle.silk_macros.specs.declared.Quotient.the-variants.{Value, ZeroDivisor as ByZero}
 use Rattle.stage3.specs.declared.Found.the-variants.{Pair, ZeroDivisor}
 use Rattle.stage3.specs.declared.BestSoFar.{BestSoFar}
+use Rattle.stage3.specs.declared.Found.{Found}
+use Rattle.stage3.specs.declared.PairSearch.{PairSearch}
 use Rattle.stage3.specs.declared.SearchState.{SearchState}
 use Rattle.stage3.specs.declared.SearchState.the-variants.{Going, Stopped}
 use Rattle.stage3.specs.Pick.{Choice, first-tried, last-tried, tried, quotient-of, bias-of, biased, score-of, used-in, zero-reached3, reached, candidate, score, zero-no, candidate-no, score-no, lag-no, contour-no, pair-count, pair-at, zero3, best3, pick}
 use Rattle.stage3.specs.Stage3.{sat-sum, energy-target, cross3, energy3, stage3, Handed}
-use Rattle.stage3.specs.Search.{summed, array-choice, with-quotient, with-pair, BestOfFirst, AfterFirst}
+use Rattle.stage3.specs.Search.{at3, summed, array-choice, with-quotient, with-pair, BestOfFirst, AfterFirst}
 use Rattle.stage3.specs.PickLaws.{score-above, sat-sum-ext, few-lags}
 
 -- ---- one pair more
@@ -268,14 +270,28 @@ pick-ext c x e u hx he =
     at-pair h p l = h _ _ (lag-first c u p l) (lag-last c u p l) (contour-used c u p l)
 
 -- over the arrays that stage 3 fills it is what stage 3 means
-pub array-pick : (w : List ℤ) (fs nb cx lag : ℕ) → Handed w fs nb cx lag
-    → pick (array-choice (frame-array nb (in-use nb cx) (λ k j m. cross-at w fs nb k j (first-tried fs lag + m))) (frame-array nb (in-use nb cx) (energy-at w fs nb cx (first-tried fs lag))) (energy-target w fs nb) fs nb cx lag)
-    ≡ stage3 w fs nb cx lag
-unfolding stage3 cross3 energy3 summed
-array-pick w fs nb cx lag r =
-    let u = in-use-bounds (r .settings) in
-    pick-ext _ (cross3 w fs nb) (energy3 w fs nb cx lag) (omega arith)
-    (λ d j l h hj. sat-sum-ext (pos 0) _ _ nb (λ k hk.
-    let e : first-tried fs lag + (d - first-tried fs lag) ≡ d = omega arith in
-    frame-array-at nb (in-use nb cx) _ k j (d - first-tried fs lag) hk hj (few-lags fs lag d (r .lag-low) h) ∙ ap (cross-at w fs nb k j) e))
-    (λ d j l h hj. sat-sum-ext (energy-target w fs nb) _ _ nb (λ k hk. frame-array-at nb (in-use nb cx) _ k j (d - first-tried fs lag) hk hj (few-lags fs lag d (r .lag-low) h)))
+module _ (w : List ℤ) (by : PairSearch) (r : Handed w (by .fs) (by .nb) (by .complexity) (by .lag)) where
+  abbrev first : ℕ
+  first = first-tried (by .fs) (by .lag)
+
+  -- a place of an array that holds f, counted from the first lag tried
+  place : (f : ℕ → ℕ → ℕ → ℤ) (k d j : ℕ) → k < by .nb → d ≤ last-tried (by .fs) (by .lag) → j < in-use (by .nb) (by .complexity)
+      → at3 (frame-array (by .nb) (in-use (by .nb) (by .complexity)) f) k j (d - first) ≡ f k j (d - first)
+  place f k d j hk h hj = frame-array-at (by .nb) (in-use (by .nb) (by .complexity)) f k j (d - first) hk hj (few-lags (by .fs) (by .lag) d (r .lag-low) h)
+
+  pub array-pick : {x : Found} {X E : List (List (List ℤ))} {e : ℤ} {n : ℕ} → x ≡ pick (array-choice X E e by) → n ≡ first
+      → X ≡ frame-array (by .nb) (in-use (by .nb) (by .complexity)) (λ k j m. cross-at w (by .fs) (by .nb) k j (n + m))
+      → E ≡ frame-array (by .nb) (in-use (by .nb) (by .complexity)) (energy-at w (by .fs) (by .nb) (by .complexity) n)
+      → e ≡ energy-target w (by .fs) (by .nb) → x ≡ stage3 w (by .fs) (by .nb) (by .complexity) (by .lag)
+  unfolding stage3 cross3 energy3 summed
+  array-pick {x} {X} {E} {e} {n} p f q s t =
+      let u = in-use-bounds (r .settings) in
+      let c = in-use (by .nb) (by .complexity) in
+      let q′ = q ∙ ap (λ (i : ℕ). frame-array (by .nb) c (λ k j m. cross-at w (by .fs) (by .nb) k j (i + m))) f in
+      let s′ = s ∙ ap (λ (i : ℕ). frame-array (by .nb) c (energy-at w (by .fs) (by .nb) (by .complexity) i)) f in
+      p ∙ (λ i. pick (array-choice (q′ i) (s′ i) (t i) by))
+      ∙ pick-ext _ (cross3 w (by .fs) (by .nb)) (energy3 w (by .fs) (by .nb) (by .complexity) (by .lag)) (omega arith)
+      (λ d j l h hj. sat-sum-ext (pos 0) _ _ (by .nb) (λ k hk.
+      let g : first + (d - first) ≡ d = omega arith in
+      place (λ k j m. cross-at w (by .fs) (by .nb) k j (first + m)) k d j hk h hj ∙ ap (cross-at w (by .fs) (by .nb) k j) g))
+      (λ d j l h hj. sat-sum-ext (energy-target w (by .fs) (by .nb)) _ _ (by .nb) (λ k hk. place (energy-at w (by .fs) (by .nb) (by .complexity) first) k d j hk h hj))

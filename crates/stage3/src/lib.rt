@@ -34,6 +34,14 @@ pub struct BestSoFar {
     pub contour: usize,
 }
 
+// Where the search looks: the rate in kHz, the subframe count, the complexity, and the winner of stage 2 scaled to the rate.
+pub struct PairSearch {
+    pub fs: usize,
+    pub nb: usize,
+    pub complexity: usize,
+    pub lag: usize,
+}
+
 // A search that goes on, or has met a zero divisor.
 pub enum SearchState {
     Going(BestSoFar),
@@ -96,12 +104,12 @@ fn mark_down(cc_max_new: i32, contour_bias_q15: i32, j: usize) -> i32
 }
 
 // Whether the lag d, moved by contour j's offset in the first subframe, is at most the greatest lag.
-fn in_reach(d: usize, nb_subfr: usize, complexity: usize, j: usize, fs_khz: usize) -> bool
-    requires { ⌜ TriedPair «fs_khz» «nb_subfr» complexity d j ⌝ }
-    ensures { λ r. ⌜ r ≡ reached «fs_khz» «nb_subfr» d j ⌝ }
+fn in_reach(by: PairSearch, d: usize, j: usize) -> bool
+    requires { ⌜ TriedPair by d j ⌝ }
+    ensures { λ r. ⌜ r ≡ reached (by .fs) (by .nb) d j ⌝ }
 {
-    d as i32 + silk_tables::lag_cb(nb_subfr, complexity, 0, j)
-        <= silk_tables::greatest_lag(fs_khz) as i32
+    d as i32 + silk_tables::lag_cb(by.nb, by.complexity, 0, j)
+        <= silk_tables::greatest_lag(by.fs) as i32
 }
 
 // One pair more. Its reach is looked at last: few pairs score higher than the best so far.
@@ -110,15 +118,13 @@ fn consider(
     cross_corr: i32,
     energy: i32,
     contour_bias_q15: i32,
+    by: PairSearch,
     d: usize,
     j: usize,
-    nb_subfr: usize,
-    complexity: usize,
-    fs_khz: usize,
 ) -> SearchState
     requires { ⌜ (pos 0 ≤ℤ «contour_bias_q15») × («contour_bias_q15» ≤ℤ pos 68) ⌝ }
-    requires { ⌜ TriedPair «fs_khz» «nb_subfr» complexity d j ⌝ }
-    ensures { λ r. ⌜ r ≡ with-pair best «cross_corr» energy «contour_bias_q15» d j (reached «fs_khz» «nb_subfr» d j) ⌝ }
+    requires { ⌜ TriedPair by d j ⌝ }
+    ensures { λ r. ⌜ r ≡ with-pair best «cross_corr» energy «contour_bias_q15» d j (reached (by .fs) (by .nb) d j) ⌝ }
 {
     if cross_corr > 0 {
         let Quotient::Value(q) = silk_div32_varq(cross_corr, energy, 14) else {
@@ -127,7 +133,7 @@ fn consider(
         let cc_max_new = mark_down(q, contour_bias_q15, j);
         let top = best.top;
         if cc_max_new > top {
-            if in_reach(d, nb_subfr, complexity, j, fs_khz) {
+            if in_reach(by, d, j) {
                 return SearchState::Going(BestSoFar {
                     top: cc_max_new,
                     lag: d,
@@ -148,33 +154,28 @@ fn scan_contours(
     energies_st3: &[[[i32; 5]; 34]; 4],
     energy_target: i32,
     contour_bias_q15: i32,
-    lag: usize,
+    by: PairSearch,
     d: usize,
-    nb_subfr: usize,
-    complexity: usize,
-    fs_khz: usize,
 ) -> SearchState
-    requires { ⌜ Scanned «contour_bias_q15» lag «nb_subfr» complexity «fs_khz» ⌝ }
-    requires { ⌜ (first-tried «fs_khz» lag ≤ d) × (d ≤ last-tried «fs_khz» lag) ⌝ }
-    requires { ⌜ BestOfFirst (array-choice (now «cross_corr_st3») (now «energies_st3») «energy_target» «fs_khz» «nb_subfr» complexity lag) ((d - first-tried «fs_khz» lag) * in-use «nb_subfr» complexity) best ⌝ }
-    ensures { λ r. ⌜ AfterFirst (array-choice (now («cross_corr_st3» .entry)) (now («energies_st3» .entry)) «energy_target» «fs_khz» «nb_subfr» complexity lag) ((d + 1 - first-tried «fs_khz» lag) * in-use «nb_subfr» complexity) r ⌝ }
+    requires { ⌜ Scanned «contour_bias_q15» by ⌝ }
+    requires { ⌜ (first-tried (by .fs) (by .lag) ≤ d) × (d ≤ last-tried (by .fs) (by .lag)) ⌝ }
+    requires { ⌜ BestOfFirst (array-choice (now «cross_corr_st3») (now «energies_st3») «energy_target» by) ((d - first-tried (by .fs) (by .lag)) * in-use (by .nb) (by .complexity)) best ⌝ }
+    ensures { λ r. ⌜ AfterFirst (array-choice (now («cross_corr_st3» .entry)) (now («energies_st3» .entry)) «energy_target» by) ((d + 1 - first-tried (by .fs) (by .lag)) * in-use (by .nb) (by .complexity)) r ⌝ }
 {
-    let lag_counter = d - start_lag(fs_khz, lag);
-    let nb_cbk_search = silk_tables::nb_cbk_search(nb_subfr, complexity);
+    let lag_counter = d - start_lag(by.fs, by.lag);
+    let nb_cbk_search = silk_tables::nb_cbk_search(by.nb, by.complexity);
     let mut now_best = best;
     for j in 0..nb_cbk_search {
-        let cross_corr = sum_subframes(0, cross_corr_st3, nb_subfr, j, lag_counter);
-        let energy = sum_subframes(energy_target, energies_st3, nb_subfr, j, lag_counter);
+        let cross_corr = sum_subframes(0, cross_corr_st3, by.nb, j, lag_counter);
+        let energy = sum_subframes(energy_target, energies_st3, by.nb, j, lag_counter);
         let SearchState::Going(next) = consider(
             now_best,
             cross_corr,
             energy,
             contour_bias_q15,
+            by,
             d,
             j,
-            nb_subfr,
-            complexity,
-            fs_khz,
         ) else {
             return SearchState::Stopped;
         };
@@ -189,16 +190,14 @@ fn scan_lags(
     energies_st3: &[[[i32; 5]; 34]; 4],
     energy_target: i32,
     contour_bias_q15: i32,
-    lag: usize,
-    nb_subfr: usize,
-    complexity: usize,
-    fs_khz: usize,
+    by: PairSearch,
 ) -> Found
-    requires { ⌜ Scanned «contour_bias_q15» lag «nb_subfr» complexity «fs_khz» ⌝ }
-    ensures { λ r. ⌜ r ≡ pick (array-choice (now («cross_corr_st3» .entry)) (now («energies_st3» .entry)) «energy_target» «fs_khz» «nb_subfr» complexity lag) ⌝ }
+    requires { ⌜ Scanned «contour_bias_q15» by ⌝ }
+    ensures { λ r. ⌜ r ≡ pick (array-choice (now («cross_corr_st3» .entry)) (now («energies_st3» .entry)) «energy_target» by) ⌝ }
 {
-    let first = start_lag(fs_khz, lag);
-    let end = end_lag(fs_khz, lag) + 1;
+    let lag = by.lag;
+    let first = start_lag(by.fs, lag);
+    let end = end_lag(by.fs, lag) + 1;
     let mut best = BestSoFar {
         top: -2147483648,
         lag: lag,
@@ -211,11 +210,8 @@ fn scan_lags(
             energies_st3,
             energy_target,
             contour_bias_q15,
-            lag,
+            by,
             d,
-            nb_subfr,
-            complexity,
-            fs_khz,
         ) else {
             return Found::ZeroDivisor;
         };
@@ -262,9 +258,11 @@ pub fn search_stage3(
         &energies_st3,
         energy_target,
         contour_bias_q15,
-        lag,
-        nb_subfr,
-        complexity,
-        fs_khz,
+        PairSearch {
+            fs: fs_khz,
+            nb: nb_subfr,
+            complexity,
+            lag,
+        },
     )
 }

@@ -17,8 +17,8 @@ use Rattle.stage3.proofs.in_reach.Tie as tie
 
 -- the lag is small, and so is the greatest
 module _ (s : tie.Start) where
-  greatest-small : greatest-lag (s .args .fs-khz) ≤ 288
-  greatest-small = let r = s .pre in omega (arith, greatest-lag-le (s .args .fs-khz) (r .rate-low), r .rate-high)
+  greatest-small : greatest-lag (s .args .by .fs) ≤ 288
+  greatest-small = let r = s .pre in omega (arith, greatest-lag-le (s .args .by .fs) (r .rate-low), r .rate-high)
 
   lag-small : s .args .d ≤ 288
   lag-small = let r = s .pre in omega (arith, greatest-small, r .lag-high)
@@ -27,10 +27,10 @@ module _ (s : tie.Start) where
   lag = r-nat w32 (s .args .d) (omega (arith, lag-small))
 
   -- the lag moved by the offset fits
-  moved : SFits w32 (pos (s .args .d) +ℤ offset (s .args .nb-subfr) 0 (s .args .j))
+  moved : SFits w32 (pos (s .args .d) +ℤ offset (s .args .by .nb) 0 (s .args .j))
   moved =
       let u = s .pre .settings .at-least in
-      let h : 0 < s .args .nb-subfr = omega arith in
+      let h : 0 < s .args .by .nb = omega arith in
       reach-fits (s .pre .settings) h (s .args .d) (s .args .j) lag-small (s .pre .used)
 
 cast-result : tie.Need-cast-result
@@ -39,13 +39,13 @@ cast-result c = lag c .fit
 lag-cb-requires : tie.Need-lag-cb-requires
 lag-cb-requires c κs = (c .pre .settings, (omega (arith, c .pre .settings .at-least), c .pre .used))
 
-read-offset : (c : tie.After-lag-cb) → Reads w32 (ofZ w32 (c .lag-cb .result)) (offset (c .before .args .nb-subfr) 0 (c .before .args .j))
+read-offset : (c : tie.After-lag-cb) → Reads w32 (ofZ w32 (c .lag-cb .result)) (offset (c .before .args .by .nb) 0 (c .before .args .j))
 read-offset c = r-got w32 (c .lag-cb .ok) (c .lag-cb .ensures)
 
 add-result : tie.Need-add-result
 add-result c = f-add (lag (c .before)) (read-offset c) (moved (c .before))
 
-greatest : (c : tie.After-greatest-lag) → Reads w32 (c .greatest-lag .result) (pos (greatest-lag (c .before .before .args .fs-khz)))
+greatest : (c : tie.After-greatest-lag) → Reads w32 (c .greatest-lag .result) (pos (greatest-lag (c .before .before .args .by .fs)))
 greatest c = r-as (r-nat w32 (c .greatest-lag .result) (omega (arith, c .greatest-lag .ensures, greatest-small (c .before .before)))) (ap pos (c .greatest-lag .ensures))
 
 cast-result-2 : tie.Need-cast-result-2

@@ -19,14 +19,14 @@ use Rattle.stage3.proofs.scan_lags.Statement.{statement}
 use Rattle.stage3.proofs.scan_lags.Tie as tie
 
 abbrev Inv-loop : tie.InvT-loop
-Inv-loop cross-corr-st3 energies-st3 energy-target contour-bias-q15 lag nb-subfr complexity fs-khz first end best₀ d₀ best d = (first-tried fs-khz lag ≤ d) × ((d ≤ last-tried fs-khz lag + 1) × ((end ≡ last-tried fs-khz lag + 1) × BestOfFirst (array-choice cross-corr-st3 energies-st3 (toZ w32 energy-target) fs-khz nb-subfr complexity lag) ((d - first-tried fs-khz lag) * in-use nb-subfr complexity) best))
+Inv-loop cross-corr-st3 energies-st3 energy-target contour-bias-q15 by lag first end best₀ d₀ best d = (first-tried (by .fs) (by .lag) ≤ d) × ((d ≤ last-tried (by .fs) (by .lag) + 1) × ((end ≡ last-tried (by .fs) (by .lag) + 1) × BestOfFirst (array-choice cross-corr-st3 energies-st3 (toZ w32 energy-target) by) ((d - first-tried (by .fs) (by .lag)) * in-use (by .nb) (by .complexity)) best))
 
 abbrev μ-loop : tie.MeasureT-loop
-μ-loop cross-corr-st3 energies-st3 energy-target contour-bias-q15 lag nb-subfr complexity fs-khz first end best₀ d₀ best d = last-tried fs-khz lag + 1 - d
+μ-loop cross-corr-st3 energies-st3 energy-target contour-bias-q15 by lag first end best₀ d₀ best d = last-tried (by .fs) (by .lag) + 1 - d
 
 -- what the search chooses from, with the target energy as it is read
 abbrev chosen : tie.Start Inv-loop μ-loop → ℤ → Choice
-chosen s z = array-choice (s .args .cross-corr-st3 .now) (s .args .energies-st3 .now) z (s .args .fs-khz) (s .args .nb-subfr) (s .args .complexity) (s .args .lag)
+chosen s z = array-choice (s .args .cross-corr-st3 .now) (s .args .energies-st3 .now) z (s .args .by)
 
 start-lag-requires : tie.Need-start-lag-requires Inv-loop μ-loop
 start-lag-requires c κs = let r = c .pre in (r .rate-high, omega (arith, r .rate-low, r .lag-low))
@@ -35,7 +35,7 @@ end-lag-requires : tie.Need-end-lag-requires Inv-loop μ-loop
 end-lag-requires c κs = let r = c .before .pre in (r .rate-high, omega (arith, r .rate-high, r .lag-high, greatest-lag-le _ (r .rate-low)))
 
 add-end : tie.Need-add-end Inv-loop μ-loop
-add-end c = let a = c .before .before .args in let r = c .before .before .pre in omega (arith, last-in (a .fs-khz) (a .lag) (r .rate-low), r .rate-high, c .end-lag .ensures)
+add-end c = let a = c .before .before .args in let r = c .before .before .pre in omega (arith, last-in (a .by .fs) (a .by .lag) (r .rate-low), r .rate-high, c .end-lag .ensures)
 
 loop-holds : tie.Need-loop-holds Inv-loop μ-loop
 loop-holds c =
@@ -43,10 +43,10 @@ loop-holds c =
     let a = s .args in
     let r = s .pre in
     let f = c .before .start-lag .ensures in
-    let b : BestSoFar = record { top = minus 2147483648; lag = a .lag; contour = 0 } in
-    let l = first-le-last (a .fs-khz) (a .lag) (r .lag-low) (r .lag-high) (r .rate-low) in
-    let z : c .before .start-lag .result - first-tried (a .fs-khz) (a .lag) ≡ 0 = omega arith in
-    let n : 0 ≡ (c .before .start-lag .result - first-tried (a .fs-khz) (a .lag)) * (in-use (a .nb-subfr) (a .complexity)) = omega (arith, ap (λ (x : ℕ). x * (in-use (a .nb-subfr) (a .complexity))) z) in
+    let b : BestSoFar = record { top = minus 2147483648; lag = a .by .lag; contour = 0 } in
+    let l = first-le-last (a .by .fs) (a .by .lag) (r .lag-low) (r .lag-high) (r .rate-low) in
+    let z : c .before .start-lag .result - first-tried (a .by .fs) (a .by .lag) ≡ 0 = omega arith in
+    let n : 0 ≡ (c .before .start-lag .result - first-tried (a .by .fs) (a .by .lag)) * (in-use (a .by .nb) (a .by .complexity)) = omega (arith, ap (λ (x : ℕ). x * (in-use (a .by .nb) (a .by .complexity))) z) in
     (omega arith, (omega arith, (ap (λ (x : ℕ). x + 1) (c .end-lag .ensures), subst (λ (m : ℕ). BestOfFirst (chosen s (toZ w32 (ofZ w32 (a .energy-target)))) m b) n (searched-start (chosen s (toZ w32 (ofZ w32 (a .energy-target)))) b refl refl refl))))
 
 scan-contours-requires : tie.Need-scan-contours-requires Inv-loop μ-loop
@@ -54,7 +54,7 @@ scan-contours-requires c κs =
     let s = c .before in
     let t = s .before .before .before in
     let a = t .args in (
-      subst (λ (z : ℤ). Scanned z (a .lag) (a .nb-subfr) (a .complexity) (a .fs-khz)) (sym (r-var (t .fits .contour-bias-q15) .val)) (t .pre),
+      subst (λ (z : ℤ). Scanned z (a .by)) (sym (r-var (t .fits .contour-bias-q15) .val)) (t .pre),
       ((s .loop .inv .0, omega arith), s .loop .inv .1 .1 .1),
     )
 
@@ -65,7 +65,7 @@ returns c =
     let t = s .before .before .before in
     let a = t .args in
     let x = subst (AfterFirst _ _) (c .enum-told .given .1) (d .scan-contours .ensures) in
-    let l : s .loop .d ≤ last-tried (a .fs-khz) (a .lag) = omega arith in
+    let l : s .loop .d ≤ last-tried (a .by .fs) (a .by .lag) = omega arith in
     let ch = chosen t (toZ w32 (ofZ w32 (a .energy-target))) in
     let m = pairs-le ch (s .loop .d) l in
     stopped-pick ch (x .0) (omega (arith, x .1)) (x .2)
@@ -74,7 +74,7 @@ returns c =
 add-d : tie.Need-add-d Inv-loop μ-loop
 add-d c =
     let s = c .before .before .before .before .before .before .before .before in
-    omega (arith, last-in (s .args .fs-khz) (s .args .lag) (s .pre .rate-low), s .pre .rate-high)
+    omega (arith, last-in (s .args .by .fs) (s .args .by .lag) (s .pre .rate-low), s .pre .rate-high)
 
 loop-again : tie.Need-loop-again Inv-loop μ-loop
 loop-again c =
@@ -87,9 +87,9 @@ returns-2 c =
     let s = c .before in
     let t = s .before .before .before in
     let a = t .args in
-    let e : s .loop .d ≡ last-tried (a .fs-khz) (a .lag) + 1 = omega arith in
+    let e : s .loop .d ≡ last-tried (a .by .fs) (a .by .lag) + 1 = omega arith in
     let ch = chosen t (toZ w32 (ofZ w32 (a .energy-target))) in
-    let n = ap (λ (x : ℕ). (x - first-tried (a .fs-khz) (a .lag)) * (in-use (a .nb-subfr) (a .complexity))) e in
+    let n = ap (λ (x : ℕ). (x - first-tried (a .by .fs) (a .by .lag)) * (in-use (a .by .nb) (a .by .complexity))) e in
     searched-pick ch (s .loop .best) (subst (λ (m : ℕ). BestOfFirst ch m (s .loop .best)) (n ∙ sym (pairs-is ch)) (s .loop .inv .1 .1 .1))
     ∙ ap (λ (z : ℤ). pick (chosen t z)) (r-var (t .fits .energy-target) .val)
 

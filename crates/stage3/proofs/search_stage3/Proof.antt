@@ -61,16 +61,12 @@ returns : tie.Need-returns
 returns c =
     let s = c .before .before .before .before .before .before .before .before in
     let a = s .args in
-    let w = a .frame .now in
-    let f = c .before .before .before .before .before .before .before .start-lag .ensures in
-    let x = c .before .before .before .before .before .before .silk-p-ana-calc-corr-st3 .ensures
-    ∙ ap (λ (n : ℕ). frame-array (a .nb-subfr) (in-use (a .nb-subfr) (a .complexity)) (λ (k j m : ℕ). cross-at w (a .fs-khz) (a .nb-subfr) k j (n + m))) f in
-    let y = c .before .before .before .before .before .silk-p-ana-calc-energy-st3 .ensures
-    ∙ ap (λ (n : ℕ). frame-array (a .nb-subfr) (in-use (a .nb-subfr) (a .complexity)) (energy-at w (a .fs-khz) (a .nb-subfr) (a .complexity) n)) f in
-    let t = c .before .before .before .target-energy in
-    let e = r-got w32 (t .ok) (t .ensures) .val in
+    let d = c .before .before .before in
+    let b = d .before .before in
+    let t = d .target-energy in
     and-numbers _ _ _ _ _ (c .scan-lags .result)
-    (c .scan-lags .ensures ∙ (λ i. pick (array-choice (x i) (y i) (e i) (a .fs-khz) (a .nb-subfr) (a .complexity) (a .lag))) ∙ array-pick w (a .fs-khz) (a .nb-subfr) (a .complexity) (a .lag) (s .pre))
+    (array-pick (a .frame .now) (record { fs = a .fs-khz; nb = a .nb-subfr; complexity = a .complexity; lag = a .lag }) (s .pre) (c .scan-lags .ensures)
+    (b .before .before .start-lag .ensures) (b .before .silk-p-ana-calc-corr-st3 .ensures) (b .silk-p-ana-calc-energy-st3 .ensures) (r-got w32 (t .ok) (t .ensures) .val))
 
 pub search-stage3-spec : {M : Type 1} → statement M
 search-stage3-spec =
