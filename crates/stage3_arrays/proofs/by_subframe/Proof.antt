@@ -1,13 +1,14 @@
 -- `stage3_arrays::by_subframe` meets its contract. The invariant: the subframes below k are filled, and `target` is where subframe k starts.
 use mathlib.Core.Path.{_≡_, refl, ap, _∙_}
 use Prim.Native.Nat.{ℕ, _-_, _*_, _≤_, _<_}
-use lib.IntN.{pos}
+use lib.IntN.{ℤ, pos}
 use lib.ListN.{replicate}
 use Rattle.lists.specs.Fill.{filled}
 use Rattle.lists.specs.FillLaws.{filled-none, filled-turn}
-use Rattle.silk_tables.specs.Tables.{in-use, first-lag}
+use Rattle.silk_tables.specs.Tables.{in-use}
 use Rattle.silk_tables.specs.ContourLaws.{greatest-lag-le}
-use Rattle.stage3_arrays.specs.Arrays.{target3 as start-of, subframe-array, frame-array, numbers-along, numbers-at}
+use Rattle.stage3_arrays.specs.Arrays.{target3 as start-of, subframe-array, frame-array, numbers-along, lag-range, numbers-at}
+use Rattle.stage3_arrays.specs.declared.LagRange.{LagRange}
 use Rattle.stage3_arrays.specs.ArrayLaws.{target-in, target-next, range-in, numbers-array}
 use Rattle.zint.specs.RuleLaws.{zneeds}
 use native.Mathlib.Omega.{arith}
@@ -30,10 +31,13 @@ lag-first-requires c κs = let r = c .before .before .pre in let u = greatest-la
 lag-count-requires : tie.Need-lag-count-requires Inv-loop μ-loop
 lag-count-requires c κs = let r = c .before .before .before .pre in (r .settings, omega arith)
 
+-- the range that is handed on is the subframe's
+range-is : (c : tie.After-lag-count Inv-loop μ-loop) → _≡_ {A = LagRange} (record { target = c .before .before .before .loop .target; first = c .before .lag-first .result; len = 5 * c .before .before .before .before .args .fs-khz; count = c .lag-count .result })
+    (lag-range (c .before .before .before .before .args .fs-khz) (c .before .before .before .before .args .nb-subfr) (c .before .before .before .before .args .complexity) (c .before .before .before .before .args .start-lag) (c .before .before .before .loop .k))
+range-is c = λ t. record { target = c .before .before .before .loop .inv .1 .1 .0 t; first = c .before .lag-first .ensures t; len = 5 * c .before .before .before .before .args .fs-khz; count = c .lag-count .ensures t }
+
 numbers-along-requires : tie.Need-numbers-along-requires Inv-loop μ-loop
-numbers-along-requires c κs =
-    let s = c .before .before .before in
-    range-in (s .before .pre) (c .before .before .loop-test .taken) (s .loop .inv .1 .1 .0) (c .before .lag-first .ensures) (s .loop .inv .1 .0) (c .lag-count .ensures)
+numbers-along-requires c κs = range-in (c .before .before .before .before .pre) (c .before .before .loop-test .taken) (range-is c)
 
 by-contour-requires : tie.Need-by-contour-requires Inv-loop μ-loop
 by-contour-requires c κs = (c .before .before .before .before .before .before .pre .settings, omega arith)
@@ -61,8 +65,8 @@ loop-again c =
     let w = a .frame .now in
     let k = s .loop .k in
     let h : k < a .nb-subfr = omega arith in
-    let f : ℕ → _ = numbers-along (a .energies) w (start-of (a .fs-khz) k) (first-lag (a .nb-subfr) (a .complexity) k (a .start-lag)) (5 * a .fs-khz) in
-    let e = d .numbers-along .ensures ∙ (λ t. filled (numbers-along (a .energies) w (s .loop .inv .1 .1 .0 t) (d .before .before .lag-first .ensures t) (s .loop .inv .1 .0 t)) (d .before .lag-count .ensures t) (replicate 22 (pos 0))) in
+    let f : ℕ → ℤ = numbers-along (a .energies) w (lag-range (a .fs-khz) (a .nb-subfr) (a .complexity) (a .start-lag) k) in
+    let e = d .numbers-along .ensures ∙ ap (λ (q : LagRange). filled (numbers-along (a .energies) w q) (q .count) (replicate 22 (pos 0))) (range-is (d .before)) in
     let v = c .by-contour .ensures ∙ numbers-array (r .settings) h f (d .numbers-along .result) (replicate 22 (pos 0)) e in (
       omega arith,
       (

@@ -14,13 +14,13 @@ returns : tie.Need-returns
 unfolding numbers-along
 returns c =
     let a = c .before .before .args in
-    c .energy-range .ensures ∙ ap (λ (t : Bool). filled (λ (i : ℕ). numbers-along t (a .frame .now) (a .target) (a .first) (a .sf-length) i) (a .count) (replicate 22 (pos 0))) (sym (c .before .if1 .taken))
+    c .energy-range .ensures ∙ ap (λ (t : Bool). filled (numbers-along t (a .frame .now) (a .r)) (a .r .count) (replicate 22 (pos 0))) (sym (c .before .if1 .taken))
 
 returns-2 : tie.Need-returns-2
 unfolding numbers-along
 returns-2 c =
     let a = c .before .before .args in
-    c .corr-range .ensures ∙ ap (λ (t : Bool). filled (λ (i : ℕ). numbers-along t (a .frame .now) (a .target) (a .first) (a .sf-length) i) (a .count) (replicate 22 (pos 0))) (sym (c .before .if1 .left))
+    c .corr-range .ensures ∙ ap (λ (t : Bool). filled (numbers-along t (a .frame .now) (a .r)) (a .r .count) (replicate 22 (pos 0))) (sym (c .before .if1 .left))
 
 pub numbers-along-spec : {M : Type 1} → statement M
 numbers-along-spec = tie.close (tie.spec (λ c κs. search zneeds) (λ c κs. search zneeds) returns returns-2)
