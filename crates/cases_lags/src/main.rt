@@ -12,7 +12,7 @@ use silk_tables::rebuild::Rebuilt;
 use silk_tables::rebuild::rebuilt_lag;
 
 // A rate, a subframe count and a complexity.
-struct Settings {
+struct LagSettings {
     fs_khz: usize,
     nb_subfr: usize,
     complexity: usize,
@@ -25,7 +25,7 @@ struct Run {
 }
 
 // Whether the record at `at` is of these settings and this pair.
-fn is_of(bytes: &[u8], at: usize, s: Settings, index: usize, contour: usize) -> bool {
+fn is_of(bytes: &[u8], at: usize, s: LagSettings, index: usize, contour: usize) -> bool {
     byte_at(bytes, at) as usize == s.fs_khz
         && byte_at(bytes, skip(bytes, at, 1)) as usize == s.nb_subfr
         && byte_at(bytes, skip(bytes, at, 2)) as usize == s.complexity
@@ -34,7 +34,7 @@ fn is_of(bytes: &[u8], at: usize, s: Settings, index: usize, contour: usize) -> 
 }
 
 // Whether the lag of subframe k is the one at `at`.
-fn lag_agrees(bytes: &[u8], at: usize, s: Settings, index: i32, contour: i32, k: usize) -> bool {
+fn lag_agrees(bytes: &[u8], at: usize, s: LagSettings, index: i32, contour: i32, k: usize) -> bool {
     let Rebuilt::Lag(lag) = rebuilt_lag(s.fs_khz, s.nb_subfr, s.complexity, index, contour, k)
     else {
         return false;
@@ -43,7 +43,7 @@ fn lag_agrees(bytes: &[u8], at: usize, s: Settings, index: i32, contour: i32, k:
 }
 
 // Whether the lags of all subframes are those from `at` on.
-fn lags_agree(bytes: &[u8], at: usize, s: Settings, index: i32, contour: i32) -> bool {
+fn lags_agree(bytes: &[u8], at: usize, s: LagSettings, index: i32, contour: i32) -> bool {
     let mut place = at;
     for k in 0..s.nb_subfr {
         if !lag_agrees(bytes, place, s, index, contour, k) {
@@ -55,7 +55,7 @@ fn lags_agree(bytes: &[u8], at: usize, s: Settings, index: i32, contour: i32) ->
 }
 
 // One pair: its record, and the place after it.
-fn pair(bytes: &[u8], run: Run, s: Settings, index: usize, contour: usize) -> Run
+fn pair(bytes: &[u8], run: Run, s: LagSettings, index: usize, contour: usize) -> Run
     requires { ⌜ (index ≤ 256) × (contour < 34) ⌝ }
 {
     let lags = skip(bytes, run.at, 6);
@@ -73,7 +73,7 @@ fn pair(bytes: &[u8], run: Run, s: Settings, index: usize, contour: usize) -> Ru
 }
 
 // All contours in use with one index.
-fn all_contours(bytes: &[u8], run: Run, s: Settings, index: usize) -> Run
+fn all_contours(bytes: &[u8], run: Run, s: LagSettings, index: usize) -> Run
     requires { ⌜ (s .complexity < 3) × (index ≤ 256) ⌝ }
 {
     let mut now = run;
@@ -84,7 +84,7 @@ fn all_contours(bytes: &[u8], run: Run, s: Settings, index: usize) -> Run
 }
 
 // All indices of the rate.
-fn all_indices(bytes: &[u8], run: Run, s: Settings) -> Run
+fn all_indices(bytes: &[u8], run: Run, s: LagSettings) -> Run
     requires { ⌜ s .complexity < 3 ⌝ }
 {
     let mut now = run;
@@ -104,7 +104,7 @@ fn all_complexities(bytes: &[u8], at: usize, fs_khz: usize, nb_subfr: usize, nam
         now = all_indices(
             bytes,
             now,
-            Settings {
+            LagSettings {
                 fs_khz: fs_khz,
                 nb_subfr: nb_subfr,
                 complexity: complexity,

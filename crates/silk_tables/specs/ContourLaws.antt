@@ -76,14 +76,14 @@ greatest-le fs = by (eqb fs 8) (eqb fs 12)
     by false true = lit≤ tt
     by false false = lit≤ tt
 
--- the rate is at most 16, and the least lag at most the greatest
-pub rate-span : (fs : ℕ) → (known-rate fs ≤ 16) × (least-lag (known-rate fs) ≤ greatest-lag (known-rate fs))
+-- the rate is from 8 to 16, and the least lag at most the greatest
+pub rate-span : (fs : ℕ) → (8 ≤ known-rate fs) × ((known-rate fs ≤ 16) × (least-lag (known-rate fs) ≤ greatest-lag (known-rate fs)))
 rate-span fs = by (eqb fs 8) (eqb fs 12)
   where
-    by : (a b : Bool) → (cond a 8 (cond b 12 16) ≤ 16) × (least-lag (cond a 8 (cond b 12 16)) ≤ greatest-lag (cond a 8 (cond b 12 16)))
-    by true b = (lit≤ tt, lit≤ tt)
-    by false true = (lit≤ tt, lit≤ tt)
-    by false false = (lit≤ tt, lit≤ tt)
+    by : (a b : Bool) → (8 ≤ cond a 8 (cond b 12 16)) × ((cond a 8 (cond b 12 16) ≤ 16) × (least-lag (cond a 8 (cond b 12 16)) ≤ greatest-lag (cond a 8 (cond b 12 16))))
+    by true b = (lit≤ tt, (lit≤ tt, lit≤ tt))
+    by false true = (lit≤ tt, (lit≤ tt, lit≤ tt))
+    by false false = (lit≤ tt, (lit≤ tt, lit≤ tt))
 
 -- the greatest lag where stage 3 is the last stage: at most 18 ms, and little less
 pub greatest-lag-le : (fs : ℕ) → 12 ≤ fs → greatest-lag fs ≤ 18 * fs

@@ -275,9 +275,9 @@ module _ (w : List ℤ) (by : PairSearch) (r : Handed w (by .fs) (by .nb) (by .c
   first = first-tried (by .fs) (by .lag)
 
   -- a place of an array that holds f, counted from the first lag tried
-  place : (f : ℕ → ℕ → ℕ → ℤ) (k d j : ℕ) → k < by .nb → d ≤ last-tried (by .fs) (by .lag) → j < in-use (by .nb) (by .complexity)
+  array-at : (f : ℕ → ℕ → ℕ → ℤ) (k d j : ℕ) → k < by .nb → d ≤ last-tried (by .fs) (by .lag) → j < in-use (by .nb) (by .complexity)
       → at3 (frame-array (by .nb) (in-use (by .nb) (by .complexity)) f) k j (d - first) ≡ f k j (d - first)
-  place f k d j hk h hj = frame-array-at (by .nb) (in-use (by .nb) (by .complexity)) f k j (d - first) hk hj (few-lags (by .fs) (by .lag) d (r .lag-low) h)
+  array-at f k d j hk h hj = frame-array-at (by .nb) (in-use (by .nb) (by .complexity)) f k j (d - first) hk hj (few-lags (by .fs) (by .lag) d (r .lag-low) h)
 
   pub array-pick : {x : Found} {X E : List (List (List ℤ))} {e : ℤ} {n : ℕ} → x ≡ pick (array-choice X E e by) → n ≡ first
       → X ≡ frame-array (by .nb) (in-use (by .nb) (by .complexity)) (λ k j m. cross-at w (by .fs) (by .nb) k j (n + m))
@@ -293,5 +293,5 @@ module _ (w : List ℤ) (by : PairSearch) (r : Handed w (by .fs) (by .nb) (by .c
       ∙ pick-ext _ (cross3 w (by .fs) (by .nb)) (energy3 w (by .fs) (by .nb) (by .complexity) (by .lag)) (omega arith)
       (λ d j l h hj. sat-sum-ext (pos 0) _ _ (by .nb) (λ k hk.
       let g : first + (d - first) ≡ d = omega arith in
-      place (λ k j m. cross-at w (by .fs) (by .nb) k j (first + m)) k d j hk h hj ∙ ap (cross-at w (by .fs) (by .nb) k j) g))
-      (λ d j l h hj. sat-sum-ext (energy-target w (by .fs) (by .nb)) _ _ (by .nb) (λ k hk. place (energy-at w (by .fs) (by .nb) (by .complexity) first) k d j hk h hj))
+      array-at (λ k j m. cross-at w (by .fs) (by .nb) k j (first + m)) k d j hk h hj ∙ ap (cross-at w (by .fs) (by .nb) k j) g))
+      (λ d j l h hj. sat-sum-ext (energy-target w (by .fs) (by .nb)) _ _ (by .nb) (λ k hk. array-at (energy-at w (by .fs) (by .nb) (by .complexity) first) k d j hk h hj))

@@ -70,7 +70,7 @@ fn start_lag(fs_khz: usize, lag: usize) -> usize
 
 // The last lag tried.
 fn end_lag(fs_khz: usize, lag: usize) -> usize
-    requires { ⌜ («fs_khz» ≤ 16) × (lag ≤ 288) ⌝ }
+    requires { ⌜ (8 ≤ «fs_khz») × ((«fs_khz» ≤ 16) × (lag ≤ 288)) ⌝ }
     ensures { λ r. ⌜ r ≡ last-tried «fs_khz» lag ⌝ }
 {
     smaller(lag + 2, silk_tables::greatest_lag(fs_khz))

@@ -9,15 +9,17 @@ use Rattle.silk_tables.proofs.greatest_index.Statement.{statement}
 use Rattle.silk_tables.proofs.greatest_index.Tie as tie
 
 greatest-lag-requires : tie.Need-greatest-lag-requires
-greatest-lag-requires c κs = omega (arith, c .known-rate .ensures, rate-span (c .before .args .fs-khz) .0)
+greatest-lag-requires c κs =
+    let b = rate-span (c .before .args .fs-khz) in
+    (omega (arith, c .known-rate .ensures, b .0), omega (arith, c .known-rate .ensures, b .1 .0))
 
 least-lag-requires : tie.Need-least-lag-requires
-least-lag-requires c κs = omega (arith, c .before .known-rate .ensures, rate-span (c .before .before .args .fs-khz) .0)
+least-lag-requires c κs = omega (arith, c .before .known-rate .ensures, rate-span (c .before .before .args .fs-khz) .1 .0)
 
 sub-result : tie.Need-sub-result
 sub-result c =
     let r = c .before .before .known-rate in
-    let p = subst (λ (n : ℕ). least-lag n ≤ greatest-lag n) (sym (r .ensures)) (rate-span (c .before .before .before .args .fs-khz) .1) in
+    let p = subst (λ (n : ℕ). least-lag n ≤ greatest-lag n) (sym (r .ensures)) (rate-span (c .before .before .before .args .fs-khz) .1 .1) in
     omega (arith, c .least-lag .ensures, c .before .greatest-lag .ensures, p)
 
 returns : tie.Need-returns

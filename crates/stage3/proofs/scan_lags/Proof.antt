@@ -32,7 +32,7 @@ start-lag-requires : tie.Need-start-lag-requires Inv-loop μ-loop
 start-lag-requires c κs = let r = c .pre in (r .rate-high, omega (arith, r .rate-low, r .lag-low))
 
 end-lag-requires : tie.Need-end-lag-requires Inv-loop μ-loop
-end-lag-requires c κs = let r = c .before .pre in (r .rate-high, omega (arith, r .rate-high, r .lag-high, greatest-lag-le _ (r .rate-low)))
+end-lag-requires c κs = let r = c .before .pre in (omega (arith, r .rate-low), (r .rate-high, omega (arith, r .rate-high, r .lag-high, greatest-lag-le _ (r .rate-low))))
 
 add-end : tie.Need-add-end Inv-loop μ-loop
 add-end c = let a = c .before .before .args in let r = c .before .before .pre in omega (arith, last-in (a .by .fs) (a .by .lag) (r .rate-low), r .rate-high, c .end-lag .ensures)
