@@ -10,9 +10,9 @@ use Rattle.pitch_text.specs.Decimal.{digits-to, digits}
 use Rattle.pitch_text.specs.Text.{refused-text}
 use Rattle.track_paper.specs.Paper.{frame-count}
 use Rattle.sheet_bytes.specs.Bytes.{low-bytes, number, number-at, word, signed, signed-at}
-use Rattle.sheet_sections.specs.Sheet.{entries, setting-entries, joined, section, sheet}
-use Rattle.track_text.specs.Program.{samples-in, half-input, first-program-refusal, program-no}
-use Rattle.track_sheet.specs.Accepted.{paper-rows, paper-sheet}
+use Rattle.sheet_sections.specs.Sheet.{section-entries, setting-numbers, concat, section, sheet}
+use Rattle.pitch_recording.specs.Recording.{samples-in, half-input, first-recording-refusal, recording-no}
+use Rattle.track_sheet.specs.Accepted.{stored-settings, paper-rows, paper-sheet}
 use Rattle.sheet_write_bytes.specs.Program.{sheet-written}
 
 -- `refused 10`, `refused 1`, and 36 bytes for one sample: five settings, and nothing in the three other sections
@@ -22,5 +22,5 @@ pub written-cases :
     ∷ (114 ∷ 101 ∷ 102 ∷ 117 ∷ 115 ∷ 101 ∷ 100 ∷ 32 ∷ 49 ∷ 10 ∷ [])
     ∷ (5 ∷ 0 ∷ 0 ∷ 0 ∷ 8 ∷ 0 ∷ 0 ∷ 0 ∷ 2 ∷ 0 ∷ 0 ∷ 0 ∷ 1 ∷ replicate 23 0)
     ∷ []
-unfolding sheet-written paper-sheet paper-rows sheet section setting-entries entries joined low-bytes number number-at word signed signed-at modZ wrap refused-text digits digits-to program-no first-program-refusal half-input input-settings samples-in samples-from settings-no rate-known subframes-known frame-count frame-length hop-length tabulate
-written-cases = refl
+unfolding sheet-written paper-sheet stored-settings paper-rows sheet section section-entries setting-numbers concat low-bytes number number-at word signed signed-at modZ wrap refused-text digits digits-to recording-no first-recording-refusal half-input input-settings samples-in samples-from settings-no rate-known subframes-known frame-count frame-length hop-length tabulate
+sheet-written-cases = refl

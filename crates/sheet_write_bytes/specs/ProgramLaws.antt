@@ -20,12 +20,11 @@ use Rattle.pitch_track.specs.Step.{start-call, deliver-call, DeliveryOutcome}
 use Rattle.track_chain.specs.Chain.{Left, chain, final-samples}
 use Rattle.track_chain.proofs.OnPaper.{equation}
 use Rattle.sheet_sections.specs.declared.Section.the-variants.{Pairs}
-use Rattle.sheet_sections.specs.Sheet.{sheet-length}
-use Rattle.sheet_sections.specs.SheetLaws.{length-sheet, entries-le}
+use Rattle.sheet_sections.specs.SheetLaws.{length-sheet, section-entries-le}
 use Rattle.pitch_sheet.specs.declared.Wrote.{Wrote}
 use Rattle.pitch_sheet.specs.declared.Wrote.the-variants.{Written, Refused}
 use Rattle.pitch_sheet.specs.Calls.{WriteOutcome, wrote, write-call}
-use Rattle.track_sheet.specs.Accepted.{paper-rows, paper-sheet}
+use Rattle.track_sheet.specs.Accepted.{stored-settings, paper-rows, paper-sheet}
 use Rattle.track_sheet.specs.AcceptedLaws.{accepted-by-write}
 use Rattle.track_text.specs.Program.{samples-in, program-no}
 use Rattle.sheet_write_bytes.specs.Program.{sheet-written}
@@ -54,12 +53,12 @@ module _ (s : Settings) (t x : List ℤ) (page : List ℕ) (h : settings-no s �
   unfolding chain
   rows-left = ap (λ (v : DeliveryOutcome). v .table) e ∙ ap (λ (l : Left). l .table) (equation s h t (x ∷ [])) ∙ ap (paper-table s t) whole
 
-  module _ (r : Wrote) (p : List ℕ) (w : wrote r p ≡ write-call s (d .delivered .track .frames) (d .table) page) where
+  module _ (r : Wrote) (p : List ℕ) (w : wrote r p ≡ write-call (stored-settings s) (d .delivered .track .frames) (d .table) page) where
     put : wrote r p ≡ wrote (Written (length (paper-sheet s x))) (overwritten (paper-sheet s x) page)
     unfolding chain overwritten
     put =
         w
-        ∙ ap (λ (v : DeliveryOutcome). write-call s (v .delivered .track .frames) (v .table) page) e
+        ∙ ap (λ (v : DeliveryOutcome). write-call (stored-settings s) (v .delivered .track .frames) (v .table) page) e
         ∙ accepted-by-write s h t (x ∷ []) .written page (rw whole room)
         ∙ ap (λ (j : List ℤ). wrote (Written (length (paper-sheet s j))) (paper-sheet s j ++ drop (length (paper-sheet s j)) page)) whole
 
@@ -78,11 +77,11 @@ same : (b : Bool) → _≡_ {A = ℕ} (cond b 0 0) 0
 same true = refl
 same false = refl
 
-module _ (s : Settings) (x : List ℤ) (few : F s (length x) ≤ 1024) where
-  -- its sheet has at most 8,228 bytes
-  pub small-sheet : length (paper-sheet s x) ≤ 8228
-  unfolding paper-sheet paper-rows sheet-length
-  small-sheet = omega (arith, length-sheet s (paper-rows s x), entries-le Pairs (paper-rows s x), length-tabulate (paper-row s x no-previous) (F s (length x)))
+module _ (s : Settings) (x : List ℤ) (few : F s (length x) ≤ program-frames) where
+  -- its sheet is no longer than the longest
+  pub small-sheet : length (paper-sheet s x) ≤ longest-program-sheet
+  unfolding paper-sheet paper-rows
+  small-sheet = omega (arith, length-sheet (stored-settings s) (paper-rows s x), section-entries-le Pairs (paper-rows s x), length-tabulate (paper-row s x no-previous) (F s (length x)))
 
   -- the paper accepts it, with a table of 1,024 rows
   pub few-taken : (t : List ℤ) → 8192 ≤ length t → paper-no track-limit s (length t / row-size) [] x ≡ 0

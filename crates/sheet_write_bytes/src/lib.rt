@@ -17,7 +17,12 @@ use pitch_sheet::Wrote;
 use pitch_sheet::write_sheet;
 use pitch_text::put_refused;
 use pitch_track::Track;
-use track_text::program_no;
+use sheet_sections::SHORTEST_SHEET;
+use sheet_sections::VOICED_FRAME_BYTES;
+use track_sheet::stored_settings;
+
+// The longest sheet: that of as many voiced frames as a program takes.
+pub const LONGEST_PROGRAM_SHEET: usize = SHORTEST_SHEET + PROGRAM_FRAMES * VOICED_FRAME_BYTES;
 
 // The sheet of the samples x, in the first bytes of `out`, and its rows in the table; how many bytes it has. A track is started, fed and written: the writing takes what the delivery took.
 fn put_track(s: Settings, x: &[i16], table: &mut [i32], out: &mut [u8]) -> usize
@@ -29,7 +34,8 @@ fn put_track(s: Settings, x: &[i16], table: &mut [i32], out: &mut [u8]) -> usize
     let d = track.deliver(x, table);
     let done = d.track;
     let frames = done.frames;
-    let w = write_sheet(s, frames, table, out);
+    let stored = stored_settings(s);
+    let w = write_sheet(stored, frames, table, out);
     let Wrote::Written(n) = w else {
         return 0;
     };
