@@ -5,7 +5,8 @@ use mathlib.Core.Path.{_≡_}
 use Prim.Native.Nat.{ℕ, _+_, _-_, _≤_, min}
 use lib.ListN.{length, take, drop}
 use Rattle.cases_io.specs.Little.{u32-at}
-use Rattle.track_text.specs.Program.{track-text}
+use Rattle.pitch_recording.specs.Recording.{recording-bytes}
+use Rattle.track_text.specs.Program.{longest-text, track-text}
 
 -- whether: a test that is true exactly where a fact holds
 pub record Tells (r : Bool) (fact : Type 0) : Type 0 where
@@ -21,11 +22,11 @@ abbrev pub whole : List ℕ → ℕ → ℕ
 whole body size = size - from body + u32-at body 0
 
 abbrev pub held : List ℕ → ℕ → ℕ
-held body size = min (whole body size) 656651
+held body size = min (whole body size) recording-bytes
 
 -- the text is within its room and the body, and it is the text of the input, whatever the bytes are that the program only counts
 pub record TextAgrees (body : List ℕ) (size : ℕ) : Type 0 where
-  pub fits : u32-at body 4 ≤ 99350
+  pub fits : u32-at body 4 ≤ longest-text
   pub inside : from body ≤ size
   pub text : (rest : List ℕ) → length rest ≡ whole body size - held body size
       → track-text (take (held body size) (drop (from body) body) ++ rest) ≡ take (u32-at body 4) (drop 8 body)

@@ -9,21 +9,22 @@ use lib.ListN.{length, take, drop, replicate, length-replicate}
 use Rattle.lists.specs.Fill.{overwritten}
 use Rattle.lists.specs.PushLaws.{take-overwritten}
 use Rattle.cases_io.specs.Little.{u32-at}
-use Rattle.track_text.specs.Program.{track-text, TrackPrinted, track-printed, answered, track-text-call}
+use Rattle.pitch_recording.specs.Recording.{recording-bytes, RecordingPrinted, recording-printed, printed-for}
+use Rattle.track_text.specs.Program.{longest-text, track-text, track-text-call}
 use Rattle.cases_track.specs.Text.{Tells, from, whole, held, TextAgrees}
 
-pub text-of : (b out : List ℕ) (x t : List ℤ) (r : ℕ) (after : List ℕ) (y u : List ℤ) → track-printed r after y u ≡ track-text-call b out x t → take r after ≡ track-text b
-unfolding track-text-call answered
+pub text-of : (b out : List ℕ) (x t : List ℤ) (r : ℕ) (after : List ℕ) (y u : List ℤ) → recording-printed r after y u ≡ track-text-call b out x t → take r after ≡ track-text b
+unfolding track-text-call printed-for
 text-of b out x t r after y u e =
-    let n : length (track-text b) ≡ r = sym (ap (λ (p : TrackPrinted). p .len) e) in
-    ap (take r) (ap (λ (p : TrackPrinted). p .out) e) ∙ take-overwritten (track-text b) out r n
+    let n : length (track-text b) ≡ r = sym (ap (λ (p : RecordingPrinted). p .len) e) in
+    ap (take r) (ap (λ (p : RecordingPrinted). p .out) e) ∙ take-overwritten (track-text b) out r n
 
 -- what is false tells a fact that does not hold
 pub tells-not : {fact : Type 0} → (fact → ⊥) → Tells false fact
 tells-not n = record { only = λ t. absurd (false≢true t); where-so = λ f. absurd (n f) }
 
 -- n bytes of the input from `at` on are held, m more are counted, and k bytes of text are told
-pub agrees-by : (body : List ℕ) (size : ℕ) (r : Bool) → u32-at body 4 ≤ 99350 → from body ≤ size
+pub agrees-by : (body : List ℕ) (size : ℕ) (r : Bool) → u32-at body 4 ≤ longest-text → from body ≤ size
     → (n m at k : ℕ) → n ≡ held body size → m ≡ whole body size - held body size → at ≡ from body → k ≡ u32-at body 4
     → ((rest : List ℕ) → length rest ≡ m → Tells r (track-text (take n (drop at body) ++ rest) ≡ take k (drop 8 body)))
     → Tells r (TextAgrees body size)
@@ -41,8 +42,8 @@ agrees-by body size r fits inside n m at k a b c d g =
     }
 
 -- the same in the code's own places
-pub agrees-at : (body : List ℕ) (size told zeros len : ℕ) (r : Bool) → told ≡ u32-at body 4 → zeros ≡ u32-at body 0 → told ≤ 99350 → 8 + told ≤ size
-    → len ≡ min (size - (8 + told) + zeros) 656651
+pub agrees-at : (body : List ℕ) (size told zeros len : ℕ) (r : Bool) → told ≡ u32-at body 4 → zeros ≡ u32-at body 0 → told ≤ longest-text → 8 + told ≤ size
+    → len ≡ min (size - (8 + told) + zeros) recording-bytes
     → ((rest : List ℕ) → length rest ≡ size - (8 + told) + zeros - len → Tells r (track-text (take (8 + told + len - (8 + told)) (drop (8 + told) body) ++ rest) ≡ take (8 + told - 8) (drop 8 body)))
     → Tells r (TextAgrees body size)
 agrees-at body size told zeros len r p q fits inside l g =

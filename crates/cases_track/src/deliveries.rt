@@ -7,6 +7,7 @@
 ghost use mathlib.Core.Path.{_≡_};
 ghost use Prim.Native.Nat.{_<_, _≤_};
 ghost use lib.ListN.{length};
+ghost use Rattle.pitch_recording.specs.Recording.{recording-samples};
 use crate::least;
 use cases_io::byte_at;
 use cases_io::i32_at;
@@ -17,11 +18,13 @@ use cases_io::settings_at;
 use cases_io::skip;
 use cases_io::u32_at;
 use cases_io::usize_at;
+use pitch_recording::RECORDING_SAMPLES;
+use pitch_recording::sample_room;
 use pitch_settings::LONGEST_FRAME;
 use pitch_settings::Settings;
+use pitch_table::MOST_FRAMES;
 use pitch_table::ROW_SIZE;
 use pitch_track::Track;
-use recording_io::sample_room;
 use track_paper::Prev;
 use track_paper::TrackAnswer;
 use zint::wrapping_sub_i32;
@@ -187,7 +190,7 @@ fn number_told(body: &[u8], rows: usize, first: usize, end: usize, i: usize) -> 
 fn table_agrees(body: &[u8], rows: usize, table: &[i32]) -> bool
     requires { ⌜ 32800 ≡ length (now table) ⌝ }
 {
-    let first = ROW_SIZE * least(usize_at(body, 34), 4096);
+    let first = ROW_SIZE * least(usize_at(body, 34), MOST_FRAMES);
     let end = first + ROW_SIZE * u32_at(body, 74);
     for i in 0..table.len() {
         if table[i] != number_told(body, rows, first, end, i) {
@@ -198,11 +201,11 @@ fn table_agrees(body: &[u8], rows: usize, table: &[i32]) -> bool
 }
 
 // The samples that are delivered: those listed from `at` on, and then zeros.
-fn samples_of(body: &[u8], at: usize) -> [i16; 328320]
-    ensures { λ r. ⌜ 328320 ≡ length r ⌝ }
+fn samples_of(body: &[u8], at: usize) -> [i16; RECORDING_SAMPLES]
+    ensures { λ r. ⌜ recording-samples ≡ length r ⌝ }
 {
     let mut samples = sample_room();
-    let n = least(u32_at(body, 66), 328320);
+    let n = least(u32_at(body, 66), RECORDING_SAMPLES);
     load_i16s(body, at, &mut samples[..n]);
     samples
 }

@@ -3,25 +3,28 @@ ghost use mathlib.Core.List.{List, _++_};
 ghost use mathlib.Core.Path.{_≡_};
 ghost use Prim.Native.Nat.{ℕ, _<_, _≤_};
 ghost use lib.ListN.{length};
-ghost use Rattle.track_text.specs.Program.{track-text};
+ghost use Rattle.pitch_recording.specs.Recording.{recording-bytes};
+ghost use Rattle.track_text.specs.Program.{longest-text, track-text};
 ghost use Rattle.cases_track.specs.Text.{Tells, TextAgrees};
 use crate::least;
 use cases_io::u32_at;
 use check::same;
-use recording_io::sample_room;
-use recording_io::table_room;
+use pitch_recording::RECORDING_BYTES;
+use pitch_recording::sample_room;
+use pitch_recording::table_room;
+use track_text::LONGEST_TEXT;
 use track_text::track_text;
 
 // Room for the text of the longest track. The `ensures` gives only the length, so that nothing unfolds the zeros.
-fn text_room() -> [u8; 99350]
-    ensures { λ r. ⌜ 99350 ≡ length r ⌝ }
+fn text_room() -> [u8; LONGEST_TEXT]
+    ensures { λ r. ⌜ longest-text ≡ length r ⌝ }
 {
-    [0; 99350]
+    [0; LONGEST_TEXT]
 }
 
 // Whether the text for this input, with so many bytes after it, is the one told.
 fn is_told(input: &[u8], more: usize, told: &[u8]) -> bool
-    requires { ⌜ (0 < more → 656651 ≤ length (now input)) ⌝ }
+    requires { ⌜ (0 < more → recording-bytes ≤ length (now input)) ⌝ }
     ensures { λ r. ⌜ ((rest : List ℕ) → length rest ≡ more → Tells r (track-text (now (input .entry) ++ rest) ≡ now (told .entry))) ⌝ }
 {
     let mut samples = sample_room();
@@ -38,7 +41,7 @@ pub fn agrees(body: &[u8], size: usize) -> bool
 {
     let zeros = u32_at(body, 0);
     let told = u32_at(body, 4);
-    if told > 99350 {
+    if told > LONGEST_TEXT {
         return false;
     }
     let from = 8 + told;
@@ -46,7 +49,7 @@ pub fn agrees(body: &[u8], size: usize) -> bool
         return false;
     }
     let whole = size - from + zeros;
-    let len = least(whole, 656651);
+    let len = least(whole, RECORDING_BYTES);
     let end = from + len;
     is_told(&body[from..end], whole - len, &body[8..from])
 }

@@ -3,19 +3,27 @@
 ghost use Prim.Native.Nat.{_≤_};
 ghost use lib.ListN.{length};
 ghost use Rattle.io.specs.Counts.{Counts};
+ghost use Rattle.frames_text.specs.Frames.{longest-record};
+ghost use Rattle.pitch_settings.specs.Settings.{longest-frame};
+ghost use Rattle.pitch_text.specs.Text.{row-text-bytes};
+use frames_text::LONGEST_RECORD;
+use frames_text::RECORD_HEAD;
 use frames_text::frame_text;
 use frames_text::record_length;
+use pitch_settings::LONGEST_FRAME;
+use pitch_text::ROW_TEXT_BYTES;
+use recording_io::EVERY;
 use recording_io::Input;
 use recording_io::read_input;
 use recording_io::say_unread;
 use recording_io::write_output;
 
-// Reads a record: its first 19 bytes and as many more as they ask for, or what there is of them.
+// Reads a record: the bytes before its samples and as many more as they ask for, or what there is of them.
 fn read_record(bytes: &mut [u8]) -> Input
-    requires { ⌜ 1299 ≤ length (now bytes) ⌝ }
+    requires { ⌜ longest-record ≤ length (now bytes) ⌝ }
     ensures { λ r. ⌜ Counts (r .count) (now (bytes .exit)) ⌝ }
 {
-    let start = read_input(&mut bytes[..19]);
+    let start = read_input(&mut bytes[..RECORD_HEAD]);
     if start.failed {
         return start;
     }
@@ -30,7 +38,7 @@ fn read_record(bytes: &mut [u8]) -> Input
 
 // Reads a record and prints its line or its refusal; whether more may follow. Nothing follows a read or a write that failed.
 fn print_record(bytes: &mut [u8], samples: &mut [i16], out: &mut [u8]) -> bool
-    requires { ⌜ (1299 ≤ length (now bytes)) × (640 ≤ length (now samples)) × (86 ≤ length (now out)) ⌝ }
+    requires { ⌜ (longest-record ≤ length (now bytes)) × (longest-frame ≤ length (now samples)) × (row-text-bytes ≤ length (now out)) ⌝ }
 {
     let got = read_record(bytes);
     if got.failed {
@@ -48,11 +56,11 @@ fn print_record(bytes: &mut [u8], samples: &mut [i16], out: &mut [u8]) -> bool
 
 // Every record, up to 2 to the 40.
 fn main() {
-    let mut bytes = [0u8; 1299];
-    let mut samples = [0i16; 640];
-    let mut out = [0u8; 86];
+    let mut bytes = [0u8; LONGEST_RECORD];
+    let mut samples = [0i16; LONGEST_FRAME];
+    let mut out = [0u8; ROW_TEXT_BYTES];
     let mut records: usize = 0;
-    while records < 1099511627776 {
+    while records < EVERY {
         let more = print_record(&mut bytes, &mut samples, &mut out);
         if more {
             records += 1;

@@ -9,34 +9,42 @@ use lib.ListN.{length}
 use Rattle.lists.specs.Fill.{overwritten}
 use Rattle.sheet_bytes.specs.Bytes.{signed-at}
 use Rattle.pitch_settings.specs.declared.Settings.{Settings}
-use Rattle.pitch_settings.specs.Settings.{settings-no, frame-length}
+use Rattle.pitch_settings.specs.Settings.{settings-no, frame-length, longest-frame}
 use Rattle.pitch_table.specs.declared.Row.{Row}
-use Rattle.pitch_input.specs.Input.{input-settings, samples-from}
+use Rattle.pitch_input.specs.Input.{head-size, input-settings, samples-from}
 use Rattle.pitch_text.specs.Text.{row-text, refused-text}
 use Rattle.silk_pitch_analysis.specs.Frame.{frame-row}
 use Rattle.frames_text.specs.declared.Line.{Line}
 
+-- the bytes before the samples: settings, previous lag and previous correlation
+abbrev pub record-head : ℕ
+record-head = head-size + 8
+
+-- the bytes of the longest record
+abbrev pub longest-record : ℕ
+longest-record = record-head + 2 * longest-frame
+
 -- the bytes of a record with these settings
 unfoldable pub record-size : Settings → ℕ
-record-size s = 19 + 2 * frame-length s
+record-size s = record-head + 2 * frame-length s
 
 -- how many bytes the record has that begins with b: those of b alone where its head is not whole or its settings are refused
 unfoldable pub record-length : List ℕ → ℕ
-record-length b = cond (ltb (length b) 19) (length b) (cond (eqb (settings-no (input-settings b)) 0) (record-size (input-settings b)) (length b))
+record-length b = cond (ltb (length b) record-head) (length b) (cond (eqb (settings-no (input-settings b)) 0) (record-size (input-settings b)) (length b))
 
 -- the number of the refusal, or 0: 10 for a head that is cut, then the settings' number (1, 2, 3), then 10 for samples that are cut
 unfoldable pub record-no : List ℕ → ℕ
 record-no b =
-    cond (ltb (length b) 19) 10
+    cond (ltb (length b) record-head) 10
     (cond (eqb (settings-no (input-settings b)) 0) (cond (ltb (length b) (record-size (input-settings b))) 10 0) (settings-no (input-settings b)))
 
 -- the record's samples
 unfoldable pub record-samples : List ℕ → List ℤ
-record-samples b = samples-from b 19 (frame-length (input-settings b))
+record-samples b = samples-from b record-head (frame-length (input-settings b))
 
 -- the row of the record's frame, with its previous lag and previous correlation
 unfoldable pub record-row : List ℕ → Row
-record-row b = frame-row (input-settings b) (record-samples b) (signed-at b 11) (signed-at b 15)
+record-row b = frame-row (input-settings b) (record-samples b) (signed-at b head-size) (signed-at b (head-size + 4))
 
 -- the record's line, or the refusal
 unfoldable pub record-text : List ℕ → List ℕ

@@ -7,7 +7,7 @@ use Rattle.pitch_input.specs.Input.{input-settings}
 use Rattle.frames_text.specs.Frames.{record-size, record-no}
 
 -- a cut head, refused settings, cut samples, and a whole record of 240 samples
-pub number-cases :
+pub record-cases :
     map record-no
     ((9 ∷ replicate 17 0)
     ∷ (9 ∷ 3 ∷ 3 ∷ replicate 16 0)
@@ -18,4 +18,4 @@ pub number-cases :
     ∷ [])
     ≡ 10 ∷ 1 ∷ 2 ∷ 3 ∷ 10 ∷ 0 ∷ []
 unfolding record-no record-size input-settings settings-no rate-known subframes-known frame-length
-number-cases = refl
+record-cases = refl

@@ -15,52 +15,52 @@ use Rattle.pitch_settings.specs.SettingsLaws.{accepted-settings}
 use Rattle.pitch_input.specs.Input.{input-settings}
 use Rattle.pitch_input.specs.InputLaws.{settings-small}
 use Rattle.pitch_text.specs.Text.{row-text, refused-text}
-use Rattle.frames_text.specs.Frames.{record-size, record-length, record-no, record-samples, record-row, record-text, frame-printed, frame-samples-after, frame-text-call}
+use Rattle.frames_text.specs.Frames.{record-head, longest-record, record-size, record-length, record-no, record-samples, record-row, record-text, frame-printed, frame-samples-after, frame-text-call}
 
--- a record has at most 1,299 bytes
-pub sized : (s : Settings) (n : ℕ) → settings-no s ≡ 0 → n ≡ frame-length s → (19 + 2 * n ≡ record-size s) × (19 ≤ 19 + 2 * n) × (19 + 2 * n ≤ 1299)
+-- a record is no longer than the longest
+pub sized : (s : Settings) (n : ℕ) → settings-no s ≡ 0 → n ≡ frame-length s → (record-head + 2 * n ≡ record-size s) × (record-head ≤ record-head + 2 * n) × (record-head + 2 * n ≤ longest-record)
 unfolding record-size
 sized s n e h = (omega arith, omega arith, omega (arith, accepted-settings s e .small))
 
 module _ (b : List ℕ) where
   -- ---- a head that is cut
-  pub no-head : length b < 19 → 10 ≡ record-no b
+  pub no-head : length b < record-head → 10 ≡ record-no b
   unfolding record-no
   no-head h = rw lt-ltb
 
-  pub length-head : length b < 19 → length b ≡ record-length b
+  pub length-head : length b < record-head → length b ≡ record-length b
   unfolding record-length
   length-head h = rw lt-ltb
 
-  module _ (enough : 19 ≤ length b) where
+  module _ (enough : record-head ≤ length b) where
     -- ---- refused settings
     module _ (w : ℕ) (e : w ≡ settings-no (input-settings b)) (wrong : w ≡ 0 → ⊥) where
       pub no-wrong : w ≡ record-no b
       unfolding record-no
-      no-wrong = rw (le-ltb (length b) 19 enough, ← e, ne-eqb w 0 wrong)
+      no-wrong = rw (le-ltb (length b) record-head enough, ← e, ne-eqb w 0 wrong)
 
       pub length-wrong : length b ≡ record-length b
       unfolding record-length
-      length-wrong = rw (le-ltb (length b) 19 enough, ← e, ne-eqb w 0 wrong)
+      length-wrong = rw (le-ltb (length b) record-head enough, ← e, ne-eqb w 0 wrong)
 
     -- ---- accepted ones
     module _ (known : settings-no (input-settings b) ≡ 0) where
       pub no-cut : length b < record-size (input-settings b) → 10 ≡ record-no b
       unfolding record-no
-      no-cut h = rw (le-ltb (length b) 19 enough, known, lt-ltb (length b) (record-size (input-settings b)) h)
+      no-cut h = rw (le-ltb (length b) record-head enough, known, lt-ltb (length b) (record-size (input-settings b)) h)
 
       pub no-none : record-size (input-settings b) ≤ length b → 0 ≡ record-no b
       unfolding record-no
-      no-none h = rw (le-ltb (length b) 19 enough, known, le-ltb (length b) (record-size (input-settings b)) h)
+      no-none h = rw (le-ltb (length b) record-head enough, known, le-ltb (length b) (record-size (input-settings b)) h)
 
       pub length-whole : record-size (input-settings b) ≡ record-length b
       unfolding record-length
-      length-whole = rw (le-ltb (length b) 19 enough, known)
+      length-whole = rw (le-ltb (length b) record-head enough, known)
 
 -- the number is small
 pub no-small : (b : List ℕ) → record-no b ≤ 10
 unfolding record-no
-no-small b = by (ltb (length b) 19) (eqb (settings-no (input-settings b)) 0) (ltb (length b) (record-size (input-settings b))) (settings-small (input-settings b))
+no-small b = by (ltb (length b) record-head) (eqb (settings-no (input-settings b)) 0) (ltb (length b) (record-size (input-settings b))) (settings-small (input-settings b))
   where
     by : (x y z : Bool) → settings-no (input-settings b) ≤ 3 → cond x 10 (cond y (cond z 10 0) (settings-no (input-settings b))) ≤ 10
     by true y z h = omega arith
@@ -70,15 +70,15 @@ no-small b = by (ltb (length b) 19) (eqb (settings-no (input-settings b)) 0) (lt
 
 -- a record that is not refused
 pub record Whole (b : List ℕ) : Type 0 where
-  pub enough : 19 ≤ length b
+  pub enough : record-head ≤ length b
   pub known : settings-no (input-settings b) ≡ 0
   pub full : record-size (input-settings b) ≤ length b
 
 pub whole : (b : List ℕ) → 0 ≡ record-no b → Whole b
 unfolding record-no
-whole b e = by (ltb (length b) 19) (eqb (settings-no (input-settings b)) 0) (ltb (length b) (record-size (input-settings b))) refl refl refl e
+whole b e = by (ltb (length b) record-head) (eqb (settings-no (input-settings b)) 0) (ltb (length b) (record-size (input-settings b))) refl refl refl e
   where
-    by : (x y z : Bool) → ltb (length b) 19 ≡ x → eqb (settings-no (input-settings b)) 0 ≡ y → ltb (length b) (record-size (input-settings b)) ≡ z → 0 ≡ cond x 10 (cond y (cond z 10 0) (settings-no (input-settings b))) → Whole b
+    by : (x y z : Bool) → ltb (length b) record-head ≡ x → eqb (settings-no (input-settings b)) 0 ≡ y → ltb (length b) (record-size (input-settings b)) ≡ z → 0 ≡ cond x 10 (cond y (cond z 10 0) (settings-no (input-settings b))) → Whole b
     by true y z p q r h = absurd (omega arith)
     by false true true p q r h = absurd (omega arith)
     by false true false p q r h = record { enough = ltb-false _ _ p; known = eqb-true _ _ q; full = ltb-false _ _ r }

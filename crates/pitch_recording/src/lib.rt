@@ -6,7 +6,7 @@ ghost use lib.Dec.{ltb};
 ghost use lib.ListN.{length};
 ghost use Rattle.pitch_settings.specs.Settings.{settings-no};
 ghost use Rattle.track_paper.specs.Paper.{F};
-ghost use Rattle.pitch_recording.specs.Recording.{program-frames, recording-samples, recording-bytes, first-recording-refusal, recording-no, take-outcome, take-call};
+ghost use Rattle.pitch_recording.specs.Recording.{program-frames, recording-samples, recording-bytes, recording-numbers, first-recording-refusal, recording-no, take-outcome, take-call};
 use pitch_input::HEAD_SIZE;
 use pitch_input::load_samples;
 use pitch_input::settings_in;
@@ -98,4 +98,25 @@ pub fn take_recording(input: &[u8], more: usize, samples: &mut [i16]) -> Recordi
     let n = (input.len() - HEAD_SIZE) / 2;
     load_samples(input, HEAD_SIZE, &mut samples[..n]);
     Recording::Taken(s, n)
+}
+
+// Room for an input and a byte of what is too long. The `ensures` of these gives only the length, so that nothing unfolds the zeros.
+pub fn input_room() -> [u8; RECORDING_BYTES]
+    ensures { λ r. ⌜ recording-bytes ≡ length r ⌝ }
+{
+    [0; RECORDING_BYTES]
+}
+
+// Room for its samples.
+pub fn sample_room() -> [i16; RECORDING_SAMPLES]
+    ensures { λ r. ⌜ recording-samples ≡ length r ⌝ }
+{
+    [0; RECORDING_SAMPLES]
+}
+
+// Room for its rows.
+pub fn table_room() -> [i32; RECORDING_NUMBERS]
+    ensures { λ r. ⌜ recording-numbers ≡ length r ⌝ }
+{
+    [0; RECORDING_NUMBERS]
 }

@@ -15,8 +15,11 @@ pub const WORD_DIGITS: usize = 10;
 // The longest row as a line: letter, seven numbers each after a space, and the line's end.
 pub const LONGEST_ROW_TEXT: usize = 1 + (2 + WORD_DIGITS) * 7 + 1;
 
-// The longest line of a frame: its number and a space before that.
-pub const LONGEST_LINE: usize = WORD_DIGITS + 1 + LONGEST_ROW_TEXT;
+// The bytes of a row as a line at most: a letter, seven fields and the end of the line.
+pub const ROW_TEXT_BYTES: usize = 2 + FIELD_BYTES * 7;
+
+// The bytes of a frame's line at most: its number and a space, then its row.
+pub const LINE_BYTES: usize = DIGITS_BYTES + 1 + ROW_TEXT_BYTES;
 
 // The decimal digits of n, from `at` on; the place after them.
 pub fn put_digits(out: &mut [u8], at: usize, n: u32) -> usize

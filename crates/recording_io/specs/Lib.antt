@@ -1,3 +1,3 @@
--- What reading says. Definition: `Answered`; law: `AnsweredLaws`.
-pub mod Answered
-pub mod AnsweredLaws
+-- What reading says. Definition: `ReadAnswer`; law: `ReadAnswerLaws`.
+pub mod ReadAnswer
+pub mod ReadAnswerLaws

@@ -1,4 +1,4 @@
-// What the programs share that take a recording or a sheet: room for a recording, reading standard input, writing standard output, and telling on standard error that either failed.
+// What the programs share that take a recording or a sheet: reading standard input, writing standard output, and telling on standard error that either failed.
 // No contract can say which bytes a call of C reads or writes; what is stated is how many bytes of the buffer count, and how a read's answer is taken.
 // A call that a signal interrupts before it moves a byte counts as one that failed, as in the kit's `io`.
 ghost use mathlib.Core.Bool.{true};
@@ -6,7 +6,7 @@ ghost use mathlib.Core.Path.{_≡_};
 ghost use Prim.Native.Nat.{_*_, _<_, _≤_};
 ghost use lib.ListN.{length};
 ghost use Rattle.io.specs.Counts.{Counts};
-ghost use Rattle.recording_io.specs.Answered.{answered};
+ghost use Rattle.recording_io.specs.ReadAnswer.{most-reads, read-answer};
 use libc::STDERR_FILENO;
 use libc::STDIN_FILENO;
 use libc::STDOUT_FILENO;
@@ -27,30 +27,9 @@ pub struct Whole {
     pub failed: bool,
 }
 
-// Room for the input: 1,024 frames of the longest settings and a frame more. The `ensures` of these gives only the length, so that nothing unfolds the zeros.
-pub fn input_room() -> [u8; 656651]
-    ensures { λ r. ⌜ 656651 ≡ length r ⌝ }
-{
-    [0; 656651]
-}
-
-// Its samples.
-pub fn sample_room() -> [i16; 328320]
-    ensures { λ r. ⌜ 328320 ≡ length r ⌝ }
-{
-    [0; 328320]
-}
-
-// The rows of 1,024 frames.
-pub fn table_room() -> [i32; 8192]
-    ensures { λ r. ⌜ 8192 ≡ length r ⌝ }
-{
-    [0; 8192]
-}
-
 // What a read's answer says: a negative one that it failed, any other how many bytes it brought, 0 at the end of the input.
 fn taken(got: isize, part: &[u8]) -> Input
-    ensures { λ r. ⌜ r ≡ answered got (length (now (part .entry))) ⌝ }
+    ensures { λ r. ⌜ r ≡ read-answer got (length (now (part .entry))) ⌝ }
     ensures { λ r. ⌜ r .count ≤ length (now (part .entry)) ⌝ }
 {
     Input {
@@ -98,7 +77,7 @@ pub fn read_input(buf: &mut [u8]) -> Input
 
 // How many bytes are left to read, by so many reads at most.
 fn count_rest(reads: usize) -> Input
-    requires { ⌜ reads ≤ 1099511627776 ⌝ }
+    requires { ⌜ reads ≤ most-reads ⌝ }
     ensures { λ r. ⌜ r .count ≤ 65536 * reads ⌝ }
 {
     let mut chunk = io::large_buffer();
@@ -122,7 +101,7 @@ fn count_rest(reads: usize) -> Input
 
 // Reads standard input into `buf` and, where it is full, counts what is left by so many reads at most.
 pub fn read_whole(buf: &mut [u8], reads: usize) -> Whole
-    requires { ⌜ reads ≤ 1099511627776 ⌝ }
+    requires { ⌜ reads ≤ most-reads ⌝ }
     ensures { λ r. ⌜ Counts (r .count) (now (buf .exit)) ⌝ }
     ensures { λ r. ⌜ (0 < r .more → r .count ≡ length (now (buf .exit))) ⌝ }
 {
@@ -141,6 +120,18 @@ pub fn read_whole(buf: &mut [u8], reads: usize) -> Whole
         more: rest.count,
         failed: rest.failed,
     }
+}
+
+// Reads the whole of standard input into `buf`, and counts what does not fit; where a read failed, says so in the name of the program.
+pub fn read_recording(name: &[u8], buf: &mut [u8]) -> Whole
+    ensures { λ r. ⌜ Counts (r .count) (now (buf .exit)) ⌝ }
+    ensures { λ r. ⌜ (0 < r .more → r .count ≡ length (now (buf .exit))) ⌝ }
+{
+    let got = read_whole(buf, EVERY);
+    if got.failed {
+        say_unread(name);
+    }
+    got
 }
 
 // A line on standard error: the program's name, and what failed.

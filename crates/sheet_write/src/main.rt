@@ -2,27 +2,26 @@
 // Where a read fails it writes nothing; that, or a failed write, it says in a line on standard error.
 ghost use mathlib.Core.Path.{_≡_};
 ghost use lib.ListN.{length};
-use recording_io::EVERY;
-use recording_io::input_room;
-use recording_io::read_whole;
-use recording_io::sample_room;
-use recording_io::say_unread;
-use recording_io::table_room;
+ghost use Rattle.sheet_write_bytes.specs.Program.{longest-program-sheet};
+use pitch_recording::input_room;
+use pitch_recording::sample_room;
+use pitch_recording::table_room;
+use recording_io::read_recording;
 use recording_io::write_output;
+use sheet_write_bytes::LONGEST_PROGRAM_SHEET;
 use sheet_write_bytes::sheet_write_bytes;
 
-// Room for the sheet of 1,024 voiced frames. The `ensures` gives only the length, so that nothing unfolds the zeros.
-fn sheet_room() -> [u8; 8228]
-    ensures { λ r. ⌜ 8228 ≡ length r ⌝ }
+// Room for the sheet of as many voiced frames as a program takes. The `ensures` gives only the length, so that nothing unfolds the zeros.
+fn sheet_room() -> [u8; LONGEST_PROGRAM_SHEET]
+    ensures { λ r. ⌜ longest-program-sheet ≡ length r ⌝ }
 {
-    [0; 8228]
+    [0; LONGEST_PROGRAM_SHEET]
 }
 
 fn main() {
     let mut bytes = input_room();
-    let got = read_whole(&mut bytes, EVERY);
+    let got = read_recording(b"sheet_write", &mut bytes);
     if got.failed {
-        say_unread(b"sheet_write");
         return;
     }
     let n = got.count;

@@ -2,27 +2,26 @@
 // Where a read fails it prints nothing; that, or a failed write, it says in a line on standard error.
 ghost use mathlib.Core.Path.{_≡_};
 ghost use lib.ListN.{length};
-use recording_io::EVERY;
-use recording_io::input_room;
-use recording_io::read_whole;
-use recording_io::sample_room;
-use recording_io::say_unread;
-use recording_io::table_room;
+ghost use Rattle.track_text.specs.Program.{longest-text};
+use pitch_recording::input_room;
+use pitch_recording::sample_room;
+use pitch_recording::table_room;
+use recording_io::read_recording;
 use recording_io::write_output;
+use track_text::LONGEST_TEXT;
 use track_text::track_text;
 
-// Room for the text of 1,024 frames. The `ensures` gives only the length, so that nothing unfolds the zeros.
-fn text_room() -> [u8; 99350]
-    ensures { λ r. ⌜ 99350 ≡ length r ⌝ }
+// Room for the text of the longest track. The `ensures` gives only the length, so that nothing unfolds the zeros.
+fn text_room() -> [u8; LONGEST_TEXT]
+    ensures { λ r. ⌜ longest-text ≡ length r ⌝ }
 {
-    [0; 99350]
+    [0; LONGEST_TEXT]
 }
 
 fn main() {
     let mut bytes = input_room();
-    let got = read_whole(&mut bytes, EVERY);
+    let got = read_recording(b"track", &mut bytes);
     if got.failed {
-        say_unread(b"track");
         return;
     }
     let n = got.count;

@@ -7,24 +7,25 @@ use borrow.Author.Needs.{needs}
 use lib.ListN.{length, take, drop, length-append, length-drop}
 use lib.Seq.{length-take-le}
 use Rattle.io.proofs.Counting.{counts}
+use Rattle.frames_text.specs.Frames.{record-head}
 use Rattle.frames.proofs.read_record.Statement.{statement}
 use Rattle.frames.proofs.read_record.Tie as tie
 
 -- the bytes after the head is read: as many as before, and the head is within them
 module _ (c : tie.After-read-input) where
-  front : length (c .read-input .last .0) ≡ 19
-  front = c .read-input .kept .0 ∙ length-take-le 19 (c .before .before .before .args .bytes .now) (omega (arith, c .before .before .before .pre))
+  front : length (c .read-input .last .0) ≡ record-head
+  front = c .read-input .kept .0 ∙ length-take-le record-head (c .before .before .before .args .bytes .now) (omega (arith, c .before .before .before .pre))
 
-  few : c .read-input .result .count ≤ 19
+  few : c .read-input .result .count ≤ record-head
   few = omega (arith, c .read-input .ensures .0, front)
 
-  whole : length (c .read-input .last .0 ++ drop 19 (c .before .before .before .args .bytes .now)) ≡ length (c .before .before .before .args .bytes .now)
-  whole = length-append (c .read-input .last .0) (drop 19 (c .before .before .before .args .bytes .now)) ∙ omega (arith, front, length-drop 19 (c .before .before .before .args .bytes .now), c .before .before .before .pre)
+  whole : length (c .read-input .last .0 ++ drop record-head (c .before .before .before .args .bytes .now)) ≡ length (c .before .before .before .args .bytes .now)
+  whole = length-append (c .read-input .last .0) (drop record-head (c .before .before .before .args .bytes .now)) ∙ omega (arith, front, length-drop record-head (c .before .before .before .args .bytes .now), c .before .before .before .pre)
 
-  within : c .read-input .result .count ≤ length (c .read-input .last .0 ++ drop 19 (c .before .before .before .args .bytes .now))
+  within : c .read-input .result .count ≤ length (c .read-input .last .0 ++ drop record-head (c .before .before .before .args .bytes .now))
   within = omega (arith, few, whole, c .before .before .before .pre)
 
-  head : length (take (c .read-input .result .count) (c .read-input .last .0 ++ drop 19 (c .before .before .before .args .bytes .now))) ≡ c .read-input .result .count
+  head : length (take (c .read-input .result .count) (c .read-input .last .0 ++ drop record-head (c .before .before .before .args .bytes .now))) ≡ c .read-input .result .count
   head = length-take-le _ _ within
 
 -- and after the rest is read
@@ -34,7 +35,7 @@ sum c =
     omega (arith, c .before .before .before .read-input2 .ensures .0, c .before .before .before .read-input2 .kept .0, c .before .before .before .before .read-input-arg2 .given .1, r .1, r .2, head (c .before .before .before .before .before .before .before .before .before .before))
 
 slice-aggregate-read-input : tie.Need-slice-aggregate-read-input
-slice-aggregate-read-input c = sym (length-take-le 19 (c .before .before .args .bytes .now) (omega (arith, c .before .before .pre)))
+slice-aggregate-read-input c = sym (length-take-le record-head (c .before .before .args .bytes .now) (omega (arith, c .before .before .pre)))
 
 same-length : tie.Need-same-length
 same-length c = whole (c .before .before .before)

@@ -20,7 +20,7 @@ use Rattle.pitch_input.specs.Input.{input-settings, samples-from}
 use Rattle.pitch_input.specs.InputLaws.{loaded, loaded-over, length-samples}
 use Rattle.pitch_text.specs.Text.{row-text}
 use Rattle.pitch_text.specs.TextLaws.{put-as, put-count, put-over}
-use Rattle.frames_text.specs.Frames.{record-size, record-samples, record-row}
+use Rattle.frames_text.specs.Frames.{record-head, record-size, record-samples, record-row}
 use Rattle.frames_text.specs.FramesLaws.{Whole, whole, no-small, text-refused, text-row, outcome-refused, outcome-row}
 use Rattle.frames_text.proofs.frame_text.Statement.{statement}
 use Rattle.frames_text.proofs.frame_text.Tie as tie
@@ -39,7 +39,7 @@ module _ (c : tie.After-frame-length) where
   room : c .frame-length .result ≤ length (c .before .before .before .before .before .before .args .samples .now)
   room = omega (arith, c .frame-length .ensures, accepted-settings _ (known (c .before)) .small, c .before .before .before .before .before .before .pre .0)
 
-  whole-frame : 19 + 2 * c .frame-length .result ≤ length (c .before .before .before .before .before .before .args .bytes .now)
+  whole-frame : record-head + 2 * c .frame-length .result ≤ length (c .before .before .before .before .before .before .args .bytes .now)
   unfolding record-size
   whole-frame = omega (arith, size, all (c .before .before) .full)
 
@@ -48,14 +48,14 @@ module _ (c : tie.After-load-samples) where
   front : length (c .load-samples .last .1 .1 .0) ≡ c .before .before .frame-length .result
   front = c .load-samples .kept .1 .1 .0 ∙ length-take-le _ (c .before .before .before .before .before .before .before .before .args .samples .now) (room (c .before .before))
 
-  x-is : take (c .before .before .frame-length .result) (c .load-samples .last .1 .1 .0 ++ drop (c .before .before .frame-length .result) (c .before .before .before .before .before .before .before .before .args .samples .now)) ≡ samples-from (c .before .before .before .before .before .before .before .before .args .bytes .now) 19 (c .before .before .frame-length .result)
-  x-is = loaded (c .before .before .before .before .before .before .before .before .args .bytes .now) 19 (c .before .before .frame-length .result) (c .before .before .before .before .before .before .before .before .args .samples .now) (c .load-samples .last .1 .1 .0) (room (c .before .before)) (c .load-samples .ensures)
+  x-is : take (c .before .before .frame-length .result) (c .load-samples .last .1 .1 .0 ++ drop (c .before .before .frame-length .result) (c .before .before .before .before .before .before .before .before .args .samples .now)) ≡ samples-from (c .before .before .before .before .before .before .before .before .args .bytes .now) record-head (c .before .before .frame-length .result)
+  x-is = loaded (c .before .before .before .before .before .before .before .before .args .bytes .now) record-head (c .before .before .frame-length .result) (c .before .before .before .before .before .before .before .before .args .samples .now) (c .load-samples .last .1 .1 .0) (room (c .before .before)) (c .load-samples .ensures)
 
   whole-is : c .load-samples .last .1 .1 .0 ++ drop (c .before .before .frame-length .result) (c .before .before .before .before .before .before .before .before .args .samples .now) ≡ overwritten (record-samples (c .before .before .before .before .before .before .before .before .args .bytes .now)) (c .before .before .before .before .before .before .before .before .args .samples .now)
   unfolding record-samples
   whole-is =
-      loaded-over (c .before .before .before .before .before .before .before .before .args .bytes .now) 19 (c .before .before .frame-length .result) (c .before .before .before .before .before .before .before .before .args .samples .now) (c .load-samples .last .1 .1 .0) (room (c .before .before)) (c .load-samples .ensures)
-      ∙ ap (λ (n : ℕ). overwritten (samples-from (c .before .before .before .before .before .before .before .before .args .bytes .now) 19 n) (c .before .before .before .before .before .before .before .before .args .samples .now)) (size (c .before .before))
+      loaded-over (c .before .before .before .before .before .before .before .before .args .bytes .now) record-head (c .before .before .frame-length .result) (c .before .before .before .before .before .before .before .before .args .samples .now) (c .load-samples .last .1 .1 .0) (room (c .before .before)) (c .load-samples .ensures)
+      ∙ ap (λ (n : ℕ). overwritten (samples-from (c .before .before .before .before .before .before .before .before .args .bytes .now) record-head n) (c .before .before .before .before .before .before .before .before .args .samples .now)) (size (c .before .before))
 
 record-no-requires : tie.Need-record-no-requires
 record-no-requires c κs = tt
@@ -122,10 +122,10 @@ module _ (c : tie.After-frame-row) where
       let lag = r-got w32 (c .before .before .before .i32-at .ok) (c .before .before .before .i32-at .ensures) .val in
       let correlation = r-got w32 (c .before .before .i32-at2 .ok) (c .before .before .i32-at2 .ensures) .val in
       let t = sized .before .before .before .settings-in .ensures in
-      let x = x-is sized ∙ ap (samples-from (start .args .bytes .now) 19) (size (sized .before .before)) in
+      let x = x-is sized ∙ ap (samples-from (start .args .bytes .now) record-head) (size (sized .before .before)) in
       c .frame-row .ensures .0
       ∙ (λ i. row-answer (t i) (x i) (lag i) (correlation i))
-      ∙ row-whole (input-settings (start .args .bytes .now)) (samples-from (start .args .bytes .now) 19 (frame-length (input-settings (start .args .bytes .now)))) _ _ (all (sized .before .before .before .before) .known) (length-samples _ 19 _)
+      ∙ row-whole (input-settings (start .args .bytes .now)) (samples-from (start .args .bytes .now) record-head (frame-length (input-settings (start .args .bytes .now)))) _ _ (all (sized .before .before .before .before) .known) (length-samples _ record-head _)
 
 -- the frame is never refused
 never : (c : tie.After-enum-told) → ⊥

@@ -2,12 +2,12 @@
 use mathlib.Core.Path.{_≡_}
 use Prim.Native.Nat.{_+_, _*_, _≤_}
 use native.Mathlib.Omega.{arith}
-use Rattle.frames_text.specs.Frames.{record-size}
+use Rattle.frames_text.specs.Frames.{record-head, longest-record, record-size}
 use Rattle.frames_text.specs.FramesLaws.{sized}
 use Rattle.frames_text.proofs.record_size.Statement.{statement}
 use Rattle.frames_text.proofs.record_size.Tie as tie
 
-size : (c : tie.After-frame-length) → (19 + 2 * c .frame-length .result ≡ record-size (c .before .args .s)) × (19 ≤ 19 + 2 * c .frame-length .result) × (19 + 2 * c .frame-length .result ≤ 1299)
+size : (c : tie.After-frame-length) → (record-head + 2 * c .frame-length .result ≡ record-size (c .before .args .s)) × (record-head ≤ record-head + 2 * c .frame-length .result) × (record-head + 2 * c .frame-length .result ≤ longest-record)
 size c = sized (c .before .args .s) (c .frame-length .result) (c .before .pre) (c .frame-length .ensures)
 
 frame-length-requires : tie.Need-frame-length-requires

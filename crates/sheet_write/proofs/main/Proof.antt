@@ -8,7 +8,7 @@ use Rattle.sheet_write.proofs.main.Tie as tie
 
 sheet-write-bytes-requires : tie.Need-sheet-write-bytes-requires
 sheet-write-bytes-requires c κs =
-    let f = c .before .before .before .before .before .before .before .before .before .read-whole in
+    let f = c .before .before .before .before .before .before .before .before .before .read-recording in
     (λ h. omega (arith, f .ensures .1 h, f .ensures .0), search needs, search needs, search needs)
 
 slice-aggregate-write-output-2 : tie.Need-slice-aggregate-write-output-2

@@ -8,7 +8,7 @@ use Rattle.track.proofs.main.Tie as tie
 
 track-text-requires : tie.Need-track-text-requires
 track-text-requires c κs =
-    let f = c .before .before .before .before .before .before .before .before .before .read-whole in
+    let f = c .before .before .before .before .before .before .before .before .before .read-recording in
     (λ h. omega (arith, f .ensures .1 h, f .ensures .0), search needs, search needs, search needs)
 
 slice-aggregate-write-output-2 : tie.Need-slice-aggregate-write-output-2

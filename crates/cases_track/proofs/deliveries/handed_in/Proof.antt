@@ -1,4 +1,4 @@
--- `cases_track::deliveries::handed_in` meets its contract: the places that are listed are within the 640.
+-- `cases_track::deliveries::handed_in` meets its contract: the places that are listed are within those for samples held.
 use mathlib.Core.Path.{sym}
 use native.Mathlib.Omega.{arith}
 use lib.Seq.{length-take-le}

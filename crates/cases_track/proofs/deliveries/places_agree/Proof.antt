@@ -1,4 +1,4 @@
--- `cases_track::deliveries::places_agree` meets its contract: the places that are compared are within the 640.
+-- `cases_track::deliveries::places_agree` meets its contract: the places that are compared are within those for samples held.
 use mathlib.Core.Path.{_≡_, sym}
 use native.Mathlib.Omega.{arith}
 use lib.ListN.{length}

@@ -8,12 +8,12 @@ use lib.IntN.{ℤ, pos, negsuc}
 use lib.Signed.{ltZ}
 use Rattle.io.specs.Counts.{clamped}
 use Rattle.recording_io.specs.declared.Input.{Input}
-use Rattle.recording_io.specs.Answered.{answered}
+use Rattle.recording_io.specs.ReadAnswer.{read-answer}
 
 abbrev input : ℕ → Bool → Input
 input n t = record { count = n; failed = t }
 
-pub answered-is : (z : ℤ) (room n : ℕ) (t : Bool) → n ≡ clamped z room → t ≡ ltZ z (pos 0) → input n t ≡ answered z room
-unfolding answered
-answered-is (pos k) room n t e f = ap₂ input e (f ∙ le-ltb k 0 (omega arith))
-answered-is (negsuc k) room n t e f = ap₂ input e f
+pub read-answer-is : (z : ℤ) (room n : ℕ) (t : Bool) → n ≡ clamped z room → t ≡ ltZ z (pos 0) → input n t ≡ read-answer z room
+unfolding read-answer
+read-answer-is (pos k) room n t e f = ap₂ input e (f ∙ le-ltb k 0 (omega arith))
+read-answer-is (negsuc k) room n t e f = ap₂ input e f
