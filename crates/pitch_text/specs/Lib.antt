@@ -1,6 +1,6 @@
--- Text as bytes. Definitions: `Decimal`, `Text`; laws beside them; `TextCases` has examples.
+-- Text as bytes. Definitions: `Decimal`, `Text`; laws beside them; `TextCaseLaws` has examples.
 pub mod Decimal
 pub mod DecimalLaws
 pub mod Text
 pub mod TextLaws
-pub mod TextCases
+pub mod TextCaseLaws

@@ -1,4 +1,4 @@
--- Cases of the definitions, by computation: numbers in decimal, and the row's line of document 01's example.
+-- Cases of the definitions, by computation: numbers in decimal, and the line of one row.
 use mathlib.Core.Path.{_≡_, refl}
 use mathlib.Core.List.{[], _∷_, map}
 use lib.Dec.{lit<}
