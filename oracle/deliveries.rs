@@ -1,4 +1,4 @@
-//! The track on paper (document 01, "Track") for lists of deliveries, over the
+//! The track on paper (docs/SCOPE.md, Track) for lists of deliveries, over the
 //! original analyser; the records of such lists, and random ones.
 
 use crate::frame::{Asked, Row, Settings};

@@ -21,7 +21,7 @@ impl Settings {
         5 * self.nb * self.rate
     }
 
-    /// Document 01's refusals 1 to 3.
+    /// Refusals 1 to 3.
     pub fn refusal(rate: u32, nb: u32, complexity: u32) -> Option<u32> {
         if ![8, 12, 16].contains(&rate) {
             Some(1)
@@ -58,7 +58,7 @@ pub struct Frame {
     pub x: Vec<i16>,
 }
 
-/// A row of document 01: verdict, lag index, contour, correlation, four lags.
+/// A row: verdict, lag index, contour, correlation, four lags.
 pub type Row = [i32; 8];
 
 const ZERO: &str = "attempt to divide by zero";
@@ -172,7 +172,7 @@ pub fn rebuild(rate: usize, nb: usize, index: usize, contour: usize) -> Vec<i32>
     lags[..nb].to_vec()
 }
 
-/// Document 01: contours in use, and the greatest lag index.
+/// Contours in use, and the greatest lag index.
 pub fn contours(rate: usize, nb: usize, complexity: usize) -> usize {
     match (rate, nb) {
         (8, 4) if complexity > 0 => 11,

@@ -117,7 +117,7 @@ const WORD_OPS: [(&str, fn(i32, i32, i32) -> i32); 24] = [
     ("rotate_right", |a, b, _| a.rotate_right(b as u32)),
 ];
 
-/// The cases (a, b, c) of one operation: document 01's, limits crossed with
+/// The cases (a, b, c) of one operation: the worked ones, limits crossed with
 /// limits, then random ones.
 fn word_cases(op: usize, r: &mut Random) -> Vec<[i32; 3]> {
     let mut cases: Vec<[i32; 3]> = Vec::new();
@@ -243,7 +243,7 @@ fn sort_record(list: &mut List, group: &str, values: &[i16], k: usize) {
 pub fn sort() -> Vec<u8> {
     let mut list = List::default();
     let mut r = Random::new(2);
-    sort_record(&mut list, "document 01", &[5, 7, 7, 3], 2);
+    sort_record(&mut list, "worked case", &[5, 7, 7, 3], 2);
     for l in 1..=4 {
         for n in 0..3usize.pow(l) {
             let values: Vec<i16> = (0..l).map(|i| (n / 3usize.pow(i) % 3) as i16 - 1).collect();

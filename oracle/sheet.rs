@@ -1,4 +1,4 @@
-//! Document 01's sheet: writer and reader as programs, and sheets to be read,
+//! The sheet of docs/FORMAT.md: writer and reader as programs, and sheets to be read,
 //! good and damaged.
 
 use crate::frame::{Row, Settings, contours, greatest_index, le32, rebuild};

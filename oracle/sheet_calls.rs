@@ -1,4 +1,4 @@
-//! What the calls that write and read a sheet must say, from document 01, "Sheet"
+//! What the calls that write and read a sheet must say, from docs/SCOPE.md, Sheet,
 //! and "What a call can say", and cases for them as records (README.md has the
 //! record's form).
 
@@ -38,7 +38,7 @@ pub fn voiced(s: &Settings, index: usize, contour: usize, correlation: i32) -> R
     row
 }
 
-/// Whether a row keeps document 01's rules, its lags the rebuilt ones.
+/// Whether a row keeps the sheet's rules, its lags the rebuilt ones.
 fn keeps_rules(s: &Settings, row: &[i32]) -> bool {
     match row[0] {
         0 => {

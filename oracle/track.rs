@@ -1,4 +1,4 @@
-//! Document 01's track and the program `track`, over the original analyser,
+//! The track of docs/SCOPE.md and the program `track`, over the original analyser,
 //! and inputs for it.
 
 use crate::frame::{Frame, Row, Settings, analyse, le16s, row_text};

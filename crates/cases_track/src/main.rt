@@ -1,4 +1,4 @@
-// Runs the track on a list of cases from standard input and prints, for each kind of case, how many it answers as document 01 and the source say.
+// Runs the track on a list of cases from standard input and prints, for each kind of case, how many it answers as docs/SCOPE.md and the source say.
 // A record is its kind (a byte), its body's length (4 bytes) and its body: a text of the program `track` (text.rt) for kinds 0 to 7, a list of deliveries (deliveries.rt) for kinds
 // 8 to 19. All numbers are little-endian.
 ghost use mathlib.Core.Path.{_≡_};

@@ -10,7 +10,7 @@ use Rattle.lists.specs.Fill.{tabulate}
 use Rattle.lists.specs.Signal.{sample}
 use Rattle.silk_sigproc.specs.SumSqr.{excess, sqr-shift, sqr-energy}
 
--- "shift = the kernel's shift + 3 - leading zeros of the energy; if positive, samples shift right by (shift + 1) / 2 rounded down": by how many bits. `excess` is that shift,
+-- by how many bits the samples shift right: half, rounded up, of the kernel's shift + 3 less the energy's leading zeros, where that is positive. `excess` is that shift,
 -- and 0 where it is negative; 0 gives 0, which leaves the samples as they are
 unfoldable pub down-shift : List ℤ → ℕ
 down-shift xs = (excess (sqr-energy xs) (sqr-shift xs) + 1) / 2
@@ -27,6 +27,6 @@ scaled xs = tabulate (shifted-at xs (down-shift xs)) (length xs)
 unfoldable pub moved-count : ℕ → ℕ → ℕ
 moved-count s n = cond (eqb s 0) 0 n
 
--- "the working frame is the leading part of the caller's samples or of the scratch": of the scratch where there is a shift
+-- the working frame: the shifted copy where there is a shift, and else the caller's samples
 unfoldable pub holder : ℕ → List ℤ → List ℤ → List ℤ
 holder s frame scratch = cond (eqb s 0) frame scratch

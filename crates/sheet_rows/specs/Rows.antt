@@ -1,4 +1,4 @@
--- Rows that a sheet can hold (document 01, "Track" and "Sheet"). fs is the rate in kHz. Definitions only; the laws are in `RowsLaws`.
+-- Rows that a sheet can hold (docs/SCOPE.md, Track and Sheet). fs is the rate in kHz. Definitions only; the laws are in `RowsLaws`.
 use mathlib.Core.Path.{_≡_}
 use mathlib.Core.Bool.{Bool, false, _&&_, _||_, cond}
 use mathlib.Core.List.{List, [], _∷_}
@@ -20,7 +20,7 @@ row-of s verdict index contour correlation =
     (cond (carried (s .rate) (s .nb) (s .complexity) index contour) (Held (voiced-row s index contour correlation)) Bad)
     (cond (eqZ verdict (pos 1) || eqZ verdict (pos 2)) (Held (unpitched-row verdict)) Bad)
 
--- the same answer in document 01's numbers: 0 and the row's eight numbers where they stand for a row, 9 (malformed) where they stand for none
+-- the same answer in numbers: 0 and the row's eight numbers where they stand for a row, 9 (malformed) where they stand for none
 unfoldable pub row-read-numbers : RowRead → List ℤ
 row-read-numbers (Held r) = pos 0 ∷ numbers r
 row-read-numbers Bad = pos 9 ∷ []

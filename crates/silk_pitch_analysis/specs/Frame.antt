@@ -40,16 +40,16 @@ signal4 s w = down-to-4khz (signal8 s w)
 
 -- ---- the last stage
 
--- "the scaled winner (stage 2's winning lag times fs / 8, rounded down)"
+-- the scaled winner: stage 2's winning lag at the frame's own rate
 unfoldable pub scaled-lag : ℕ → ℕ → ℕ
 scaled-lag fs lag = lag * fs / 8
 
--- "In a row's pair the lag index is the lag less 2fs"
+-- the lag index counts from 2fs
 abbrev pub from-pair : ℕ → ℤ → Found → Verdict
 from-pair fs corr (Pair lag contour) = Voiced (pos lag -ℤ pos (2 * fs)) (pos contour) corr
 from-pair fs corr Zero3 = ZeroDivisor
 
--- "At 8 kHz stage 2 is the last stage .. its pair is the winning lag with its contour"; at 12 and 16 kHz stage 3 is
+-- at 8 kHz stage 2 is the last stage, and the pair is its winning lag with its contour; at 12 and 16 kHz stage 3 is
 unfoldable pub last-stage : Settings → List ℤ → ℕ → ℕ → ℤ → Verdict
 last-stage s w lag contour corr =
     cond (eqb (s .rate) 8) (from-pair (s .rate) corr (Pair lag contour))
@@ -75,11 +75,11 @@ from-screen s w e f prev corr Zero1 = ZeroDivisor
 unfoldable pub staged : Settings → List ℤ → ℤ → ℤ → Verdict
 staged s w prev corr = from-screen s w (signal8 s w) (signal4 s w) prev corr (stage1 (signal4 s w) (s .nb) (s .complexity) (s .thres1) .screen)
 
--- the frame x: "the working frame is the leading part of the caller's samples or of the scratch"
+-- the frame x: the stages on its working frame
 unfoldable pub verdict-of : Settings → List ℤ → ℤ → ℤ → Verdict
 verdict-of s x prev corr = staged s (scaled x) prev corr
 
--- ---- the row: "verdict (0 voiced, 1 unvoiced, 2 zero divisor), lag index, contour index, correlation, four lags"
+-- ---- the row of a verdict
 
 -- the lag of subframe k: the RFC's rebuilding of a voiced verdict's pair, else 0
 abbrev pub lag-of : Settings → Verdict → ℕ → ℤ
@@ -125,7 +125,7 @@ unfoldable pub row-answer : Settings → List ℤ → ℤ → ℤ → RowAnswer
 row-answer s x prev corr =
     cond (eqb (frame-no s (length x) 4) 0) (RowAnalysed (frame-row s (take (frame-length s) x) prev corr)) (RowRefused (frame-no s (length x) 4))
 
--- ---- the answers in document 01's numbers
+-- ---- the answers in numbers
 
 -- a verdict: its number, then lag index, contour index and correlation
 abbrev pub verdict-numbers : Verdict → List ℤ

@@ -1,4 +1,4 @@
--- What a frame's verdict is, in words (document 01, "Three stages"; the order's third demand): unvoiced exactly where no divisor reached is zero and either stage 1's best is under 3277
+-- What a frame's verdict is, in words (docs/SCOPE.md, Stages): unvoiced exactly where no divisor reached is zero and either stage 1's best is under 3277
 -- or no lag passes stage 2; a zero divisor exactly where a divisor reached is zero; a voiced frame's pair is the last stage's best by comparison or, where stage 3 has no candidate, the
 -- scaled winner with contour 0. `VerdictExactly` is the claim, and `MeaningLaws` shows it.
 use mathlib.Core.Path.{_≡_}
@@ -73,7 +73,7 @@ module _ (s : Settings) (x : List ℤ) (prev corr : ℤ) where
 
   -- ---- the verdicts
 
-  -- "A row is unvoiced exactly when no divisor reached is zero and either stage 1's best is under 3277 or no lag passes stage 2": stage 2 is entered only where stage 1 goes on
+  -- no divisor reached is zero, and stage 1's best is under 3277 or no lag passes stage 2; stage 2 is entered only where stage 1 goes on
   abbrev pub UnvoicedWhen : Type 0
   UnvoicedWhen = (Zero1 → ⊥) × (UnderBest ⊎ (GoesOn × ((Zero2 → ⊥) × NonePasses)))
 

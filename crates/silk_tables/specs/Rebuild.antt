@@ -50,7 +50,7 @@ pub record Coded (fs nb : ℕ) (index : ℤ) (contour k : ℕ) : Type 0 where
   pub entry : contour < book-entries fs nb
   pub subframe : k < nb
 
--- ---- which pairs there are (document 01, Contours and Sheet)
+-- ---- which pairs there are (docs/SCOPE.md, Contours and Sheet)
 
 -- the pair: an index from 0 to the greatest at this rate, and a contour in use
 unfoldable pub carried : ℕ → ℕ → ℕ → ℤ → ℤ → Bool
@@ -69,7 +69,7 @@ unfoldable pub rebuild-call : ℕ → ℕ → ℕ → ℤ → ℤ → ℕ → Re
 rebuild-call fs nb cx index contour k =
     cond (rebuildable fs nb cx index contour k) (Lag (rebuilt fs nb index (natAbs contour) k)) NotCarried
 
--- the answer in document 01's numbers: 0 and the lag, or 9 (malformed) for numbers that are no pair of a frame; and which of the two comes
+-- the answer in numbers: 0 and the lag, or 9 (malformed) for numbers that are no pair of a frame; and which of the two comes
 abbrev pub rebuilt-numbers : Rebuilt → List ℤ
 rebuilt-numbers (Lag l) = pos 0 ∷ l ∷ []
 rebuilt-numbers NotCarried = pos 9 ∷ []

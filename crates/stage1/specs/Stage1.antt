@@ -24,7 +24,7 @@ use Rattle.stage1.specs.declared.Screen.{Screen}
 use Rattle.stage1.specs.declared.Screen.the-variants.{ZeroDivisor, Unvoiced, Goes}
 use Rattle.stage1.specs.declared.Stage1.{Stage1}
 
--- ---- "Stage 1, 4 kHz, lags 8 to 72"
+-- ---- the lags 8 to 72 at 4 kHz
 
 -- half-frame h, one for each two subframes, is the 40 samples from here on; lag d compares it with the 40 samples d earlier
 unfoldable pub target1 : ℕ → ℕ
@@ -70,11 +70,11 @@ half-no p = p / 65
 unfoldable pub lag-no1 : ℕ → ℕ
 lag-no1 p = 8 + p % 65
 
--- "a quotient that is reached .. has divisor zero"
+-- some quotient that is reached has divisor zero
 unfoldable pub zero1 : List ℤ → ℕ → Bool
 zero1 f nb = some (divisors1 nb) (λ p. by-zero (quotient1 f (half-no p) (lag-no1 p)))
 
--- ---- the scores: "steps not named here, the scores and biases among them, are the source's"
+-- ---- the scores, by the source's steps
 
 -- the quotient's low 16 bits (where it has none the stage ends, and the 0 is not read)
 unfoldable pub corr1 : List ℤ → ℕ → ℕ → ℤ
@@ -104,15 +104,15 @@ lag-at xs r = 8 + ranked xs r
 unfoldable pub score-at : List ℤ → ℕ → ℤ
 score-at xs r = sample xs (ranked xs r)
 
--- "The 4 + 2 × complexity best are kept": so many places of the ranking are searched
+-- 4 + 2 × complexity: so many places of the ranking are searched
 unfoldable pub search-length : ℕ → ℕ
 search-length cx = 4 + 2 * cx
 
--- "the threshold `silk_smulwb(thres1, best)`": the best is the score at the first place
+-- the threshold is a share thres1 of the best: the best is the score at the first place
 unfoldable pub threshold1 : List ℤ → ℤ → ℤ
 threshold1 xs thres1 = smulwb thres1 (score-at xs 0)
 
--- "Kept lags are read in order and the scan stops at the first not strictly above the threshold": how many come before that one
+-- the ranking is read up to the first score that is not strictly above the threshold: how many come before that one
 unfoldable pub place-or : ℕ → Place → ℕ
 place-or n none = n
 place-or n (at p) = p
@@ -126,7 +126,7 @@ kept-count xs cx thres1 = place-or (search-length cx) (first-from 0 (search-leng
 unfoldable pub stopped : Screen → Stage1
 stopped s = record { screen = s; lags = replicate 8 0; count = 0 }
 
--- "The best under 3277: unvoiced; 3277 goes on"
+-- a best under 3277 is unvoiced, and 3277 itself goes on
 unfoldable pub screened : List ℤ → ℕ → ℤ → Stage1
 screened xs cx thres1 =
     cond (ltZ (score-at xs 0) (pos 3277)) (stopped Unvoiced)

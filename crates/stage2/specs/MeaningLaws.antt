@@ -193,7 +193,8 @@ module _ (e : List ℤ) (kept : List ℕ) (fs nb cx : ℕ) (thres2 prev corr : �
   stage2-only x a = one-meaning x answer a stage2-means
 
   -- so each answer is given exactly where its words hold
-  pub stage2-exactly : (x : Stage2) → (answer ≡ x → Means x) × (Means x → answer ≡ x)
+  pub stage2-exactly : (x : Stage2)
+      → (stage2 e kept fs nb cx thres2 prev corr ≡ x → Meaning2 e kept fs nb cx thres2 prev corr x) × (Meaning2 e kept fs nb cx thres2 prev corr x → stage2 e kept fs nb cx thres2 prev corr ≡ x)
   stage2-exactly x = (λ q. subst Means q stage2-means, λ a. sym (stage2-only x a))
 
 -- ---- the winner's range, and that of the lag that stage 3 starts from

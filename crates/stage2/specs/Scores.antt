@@ -21,7 +21,7 @@ unfoldable pub sum : (ℕ → ℤ) → ℕ → ℤ
 sum f zero = pos 0
 sum f (suc n) = sum f n +ℤ f n
 
--- ---- "A lag's sum is its best contour's, first of equals."
+-- ---- a lag's sum is that of the contour that sums highest, of equals the first
 
 -- along contour j: each subframe's correlation at the lag that the contour moves d to
 unfoldable pub contour-sum : (ℕ → ℕ → ℤ) → ℕ → ℕ → ℕ → ℤ
@@ -54,7 +54,7 @@ pub record Search2 : Type 0 where
   pub prev-lag : ℤ
   pub prev-corr : ℤ
 
--- ---- "It passes if strictly above nb × low16(thres2)."
+-- ---- a lag passes where its sum exceeds nb times the low 16 bits of thres2
 
 unfoldable pub threshold2 : ℕ → ℤ → ℤ
 threshold2 nb thres2 = pos nb *ℤ wrap w16 thres2
@@ -62,7 +62,7 @@ threshold2 nb thres2 = pos nb *ℤ wrap w16 thres2
 unfoldable pub passes2 : Search2 → ℕ → Bool
 passes2 s d = listed (s .kept) d && ltZ (s .threshold) (lag-sum (s .correlations) (s .subframes) (s .contours) d)
 
--- ---- "The best biased score": the steps are the source's
+-- ---- the biased score, by the source's steps
 
 -- the previous lag, which is at the rate fs, at 8 kHz
 unfoldable pub prev-8khz : ℕ → ℤ → ℤ

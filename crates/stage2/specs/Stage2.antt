@@ -16,11 +16,11 @@ use Rattle.stage2.specs.declared.Stage2.{Stage2}
 use Rattle.stage2.specs.declared.Stage2.the-variants.{ZeroDivisor, Unvoiced, Winner}
 use Rattle.stage2.specs.Scores.{best-contour, lag-sum, Search2, threshold2, passes2, prev-8khz, score2}
 
--- "The best biased score among passing lags wins, lowest lag first": the place p stands for the lag 16 + p, up to 143
+-- the passing lag with the highest biased score wins, of equals the lowest: the place p stands for the lag 16 + p, up to 143
 unfoldable pub winner : Search2 → Place
 winner s = best 128 (λ p. passes2 s (16 + p)) (λ p. score2 s (16 + p))
 
--- "none: unvoiced. Correlation (Q15) is 4 × (sum / nb)."
+-- without a passing lag the frame is unvoiced; the correlation is 4 times the sum over nb, Q15
 abbrev pub won : Search2 → Place → Stage2
 won s none = Unvoiced
 won s (at p) =

@@ -45,7 +45,7 @@ divisor2 e k d = wrap w32 (divisor-sum2 e k d)
 unfoldable pub quotient2 : List ℤ → ℕ → ℕ → Quotient
 quotient2 e k d = quotient (cross2 e k d) (divisor2 e k d) (pos 14)
 
--- "Unmeasured correlations are 0." A measured one is the quotient's low 16 bits where the cross-correlation is positive, else 0: only there is the quotient reached
+-- A lag that is not measured has correlation 0. A measured one has the quotient's low 16 bits where the cross-correlation is positive, else 0: only there is the quotient reached
 unfoldable pub correlation2 : List ℤ → List ℕ → ℕ → ℕ → ℤ
 correlation2 e kept k d = cond (measured kept d) (cond (ltZ (pos 0) (cross2 e k d)) (low16-of (quotient2 e k d)) (pos 0)) (pos 0)
 
@@ -64,6 +64,6 @@ subframe-no p = p / 131
 unfoldable pub lag-no2 : ℕ → ℕ
 lag-no2 p = 14 + p % 131
 
--- "a quotient that is reached .. has divisor zero"
+-- some quotient that is reached has divisor zero
 unfoldable pub zero2 : List ℤ → List ℕ → ℕ → Bool
 zero2 e kept nb = some (divisors2 nb) (λ p. zero-reached2 e kept (subframe-no p) (lag-no2 p))

@@ -5,8 +5,9 @@ use Prim.Native.Nat.{ℕ, _+_, _*_, _≤_, _<_}
 use lib.Dec.{leb}
 use lib.ListN.{length, getD}
 use Rattle.best.specs.Best.{some}
+use Rattle.silk_tables.specs.Tables.{least-lag, greatest-lag}
 
--- "Kept lag L marks v = 2L": d lies from v - below to v + above, for the i-th kept lag; and for some kept lag
+-- A kept lag L marks v = 2L: d lies from v - below to v + above, for the i-th kept lag; and for some kept lag
 unfoldable pub mark-near : List ℕ → ℕ → ℕ → ℕ → ℕ → Bool
 mark-near kept below above d i = leb (2 * getD kept i 0) (d + below) && leb d (2 * getD kept i 0 + above)
 
@@ -17,11 +18,11 @@ near kept below above d = some (length kept) (mark-near kept below above d)
 unfoldable pub marked : List ℕ → ℕ → ℕ → ℕ → ℕ → ℕ → Bool
 marked kept below above low high d = leb low d && (leb d high && near kept below above d)
 
--- "lags v - 1 to v + 1 are listed if within 16 to 143"
+-- a listed lag is within 1 of a mark, and within the least and the greatest lag at 8 kHz, 16 to 143
 unfoldable pub listed : List ℕ → ℕ → Bool
-listed kept d = marked kept 1 1 16 143 d
+listed kept d = marked kept 1 1 (least-lag 8) (greatest-lag 8) d
 
--- "and v - 2 to v + 3 measured if within 14 to 144"
+-- a measured lag lies from 2 below a mark to 3 above it, and within 14 to 144
 unfoldable pub measured : List ℕ → ℕ → Bool
 measured kept d = marked kept 2 3 14 144 d
 

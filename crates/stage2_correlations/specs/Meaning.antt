@@ -1,7 +1,9 @@
 -- The listed and the measured lags of stage 2 in words. `MeaningLaws` shows that they are those of `Marks`.
-use mathlib.Core.List.{List}
-use Prim.Native.Nat.{ℕ, _+_, _*_, _≤_, _<_}
+use mathlib.Core.Bool.{Bool, cond}
+use mathlib.Core.List.{List, [], _∷_, _++_}
+use Prim.Native.Nat.{ℕ, zero, suc, _+_, _*_, _≤_, _<_}
 use lib.ListN.{length, getD}
+use Rattle.silk_tables.specs.Tables.{least-lag, greatest-lag}
 
 -- a marked lag: it lies within the ends, and from v - below to v + above for the double v of a kept lag
 pub record Marked (kept : List ℕ) (below above low high d : ℕ) : Type 0 where
@@ -12,10 +14,15 @@ pub record Marked (kept : List ℕ) (below above low high d : ℕ) : Type 0 wher
   pub not-below : 2 * getD kept which 0 ≤ d + below
   pub not-above : d ≤ 2 * getD kept which 0 + above
 
--- "lags v - 1 to v + 1 are listed if within 16 to 143"
+-- a listed lag is within 1 of a mark, and within the least and the greatest lag at 8 kHz, 16 to 143
 abbrev pub Listed : List ℕ → ℕ → Type 0
-Listed kept d = Marked kept 1 1 16 143 d
+Listed kept d = Marked kept 1 1 (least-lag 8) (greatest-lag 8) d
 
--- "and v - 2 to v + 3 measured if within 14 to 144"
+-- a measured lag lies from 2 below a mark to 3 above it, and within 14 to 144
 abbrev pub Measured : List ℕ → ℕ → Type 0
 Measured kept d = Marked kept 2 3 14 144 d
+
+-- the numbers below n that pass the test, rising
+unfoldable pub passing : ℕ → (ℕ → Bool) → List ℕ
+passing zero t = []
+passing (suc n) t = passing n t ++ cond (t n) (n ∷ []) []

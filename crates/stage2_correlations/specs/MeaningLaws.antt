@@ -10,7 +10,7 @@ use lib.ListN.{length, getD, length-append}
 use Rattle.best.specs.Best.{some}
 use Rattle.best.specs.BestLaws.{some-find}
 use Rattle.stage2_correlations.specs.Marks.{mark-near, near, marked, listed, measured, Kept}
-use Rattle.stage2_correlations.specs.Meaning.{Marked, Listed, Measured}
+use Rattle.stage2_correlations.specs.Meaning.{Marked, Listed, Measured, passing}
 use Rattle.zint.specs.BoolLaws.{and-left, and-right}
 use Rattle.stage2_correlations.specs.MarkLaws.{mark-yes, near-yes, inside}
 
@@ -46,12 +46,7 @@ pub measured-means : (kept : List ℕ) (d : ℕ) → (measured kept d ≡ true �
 unfolding measured
 measured-means kept d = (to-marked kept 2 3 14 144 d, of-marked kept 2 3 14 144 d)
 
--- the numbers below n that pass the test, rising
-unfoldable pub passing : ℕ → (ℕ → Bool) → List ℕ
-passing zero t = []
-passing (suc n) t = passing n t ++ cond (t n) (n ∷ []) []
-
--- ---- "L = 8 lists 16, 17 and measures 14 to 19; L = 40 lists 79 to 81, measures 78 to 83; L = 72 lists 143, measures 142 to 144."
+-- ---- what the kept lags 8, 40 and 72 list and measure
 
 pub marks-of-8 : (passing 200 (listed (8 ∷ [])) ≡ 16 ∷ 17 ∷ []) × (passing 200 (measured (8 ∷ [])) ≡ 14 ∷ 15 ∷ 16 ∷ 17 ∷ 18 ∷ 19 ∷ [])
 unfolding passing listed measured marked near mark-near some
@@ -65,7 +60,7 @@ pub marks-of-72 : (passing 200 (listed (72 ∷ [])) ≡ 143 ∷ []) × (passing 
 unfolding passing listed measured marked near mark-near some
 marks-of-72 = (refl, refl)
 
--- ---- "At most 24 are listed."
+-- ---- no more than 24 lags are listed
 
 -- one number more
 abbrev one : Bool → ℕ

@@ -16,15 +16,14 @@ use silk_macros::silk_div32_varq;
 use silk_sigproc::energy_from;
 use silk_sigproc::silk_inner_prod_aligned;
 use silk_sigproc::square;
+use silk_tables::MAX_LAG_8KHZ;
+use silk_tables::PE_MIN_LAG_MS;
 use zint::as_i16;
 use zint::wrapping_add_i32;
 use zint::wrapping_sub_i32;
 
-// The least lag at 8 kHz that stage 2 can choose.
-pub const MIN_LAG_8KHZ: usize = 16;
-
-// The greatest lag at 8 kHz that stage 2 can choose.
-pub const MAX_LAG_8KHZ: usize = 143;
+// The least lag at 8 kHz that stage 2 can choose; `MAX_LAG_8KHZ` of silk_tables is the greatest.
+pub const MIN_LAG_8KHZ: usize = PE_MIN_LAG_MS * 8;
 
 // The samples of a subframe at 8 kHz.
 pub const SF_LENGTH_8KHZ: usize = 40;

@@ -51,7 +51,7 @@ unfoldable pub answer-nos : List TrackAnswer → List ℕ
 answer-nos [] = []
 answer-nos (a ∷ rest) = answer-no a ∷ answer-nos rest
 
--- ---- the cuts: "Lists alike in settings and accepted samples, joined, end with the same finished rows, wherever the samples were cut"
+-- ---- the cuts: lists of deliveries with the same settings and the same accepted samples, joined, finish the same rows
 
 -- the samples of the deliveries that were accepted, joined, by the number said of each
 abbrev pub accepted-part : ℕ → List ℤ → List ℤ
