@@ -20,7 +20,8 @@ pub use Rattle.lists.specs.PushLaws.{take-overwritten}
 use Rattle.lists.specs.Signal.{sample}
 use Rattle.silk_resampler.specs.Down2.{down2}
 use Rattle.silk_resampler.specs.Down2Laws.{down2-length}
-use Rattle.silk_resampler.specs.Down23.{source-filter, down2-3}
+use Rattle.silk_resampler.specs.declared.Filter.{Filter}
+use Rattle.silk_resampler.specs.Down23.{down2-3}
 use Rattle.silk_resampler.specs.Down23Laws.{down2-3-length}
 use Rattle.frame_signals.specs.Signals.{down-to-8khz, two-tap, down-to-4khz}
 
@@ -46,18 +47,18 @@ filled-down f (suc zero) n l o h k e =
 
 -- ---- which signal at which rate
 
-pub eight-16 : (fs : ℕ) (w : List ℤ) → fs ≡ 16 → down-to-8khz fs w ≡ down2 w
+pub eight-16 : (F : Filter) (fs : ℕ) (w : List ℤ) → fs ≡ 16 → down-to-8khz F fs w ≡ down2 w
 unfolding down-to-8khz
-eight-16 fs w e = ap (λ (t : Bool). cond t (down2 w) (cond (eqb fs 12) (down2-3 source-filter w) w)) (eq-eqb fs 16 e)
+eight-16 F fs w e = ap (λ (t : Bool). cond t (down2 w) (cond (eqb fs 12) (down2-3 F w) w)) (eq-eqb fs 16 e)
 
-pub eight-12 : (fs : ℕ) (w : List ℤ) → fs ≡ 12 → down-to-8khz fs w ≡ down2-3 source-filter w
+pub eight-12 : (F : Filter) (fs : ℕ) (w : List ℤ) → fs ≡ 12 → down-to-8khz F fs w ≡ down2-3 F w
 unfolding down-to-8khz
-eight-12 fs w e =
-    ap₂ (λ (t u : Bool). cond t (down2 w) (cond u (down2-3 source-filter w) w)) (ne-eqb fs 16 (λ h. omega arith)) (eq-eqb fs 12 e)
+eight-12 F fs w e =
+    ap₂ (λ (t u : Bool). cond t (down2 w) (cond u (down2-3 F w) w)) (ne-eqb fs 16 (λ h. omega arith)) (eq-eqb fs 12 e)
 
-pub eight-8 : (fs : ℕ) (w : List ℤ) → (fs ≡ 16 → ⊥) → (fs ≡ 12 → ⊥) → down-to-8khz fs w ≡ w
+pub eight-8 : (F : Filter) (fs : ℕ) (w : List ℤ) → (fs ≡ 16 → ⊥) → (fs ≡ 12 → ⊥) → down-to-8khz F fs w ≡ w
 unfolding down-to-8khz
-eight-8 fs w g h = ap₂ (λ (t u : Bool). cond t (down2 w) (cond u (down2-3 source-filter w) w)) (ne-eqb fs 16 g) (ne-eqb fs 12 h)
+eight-8 F fs w g h = ap₂ (λ (t u : Bool). cond t (down2 w) (cond u (down2-3 F w) w)) (ne-eqb fs 16 g) (ne-eqb fs 12 h)
 
 -- ---- lengths
 
@@ -66,17 +67,17 @@ pub record FrameOf (fs nb : ℕ) (w : List ℤ) : Type 0 where
   pub rate : (fs ≡ 8) ⊎ ((fs ≡ 12) ⊎ (fs ≡ 16))
   pub size : length w ≡ (20 + 5 * nb) * fs
 
-pub length-eight : {fs nb : ℕ} {w : List ℤ} → FrameOf fs nb w → length (down-to-8khz fs w) ≡ (20 + 5 * nb) * 8
-length-eight {fs} {nb} {w} s = by (s .rate)
+pub length-eight : (F : Filter) {fs nb : ℕ} {w : List ℤ} → FrameOf fs nb w → length (down-to-8khz F fs w) ≡ (20 + 5 * nb) * 8
+length-eight F {fs} {nb} {w} s = by (s .rate)
   where
-    by : (fs ≡ 8) ⊎ ((fs ≡ 12) ⊎ (fs ≡ 16)) → length (down-to-8khz fs w) ≡ (20 + 5 * nb) * 8
-    by (inl e) = ap length (eight-8 fs w (λ h. omega arith) (λ h. omega arith)) ∙ s .size ∙ ap (λ (k : ℕ). (20 + 5 * nb) * k) e
+    by : (fs ≡ 8) ⊎ ((fs ≡ 12) ⊎ (fs ≡ 16)) → length (down-to-8khz F fs w) ≡ (20 + 5 * nb) * 8
+    by (inl e) = ap length (eight-8 F fs w (λ h. omega arith) (λ h. omega arith)) ∙ s .size ∙ ap (λ (k : ℕ). (20 + 5 * nb) * k) e
     by (inr (inl e)) =
         let k : length w ≡ (20 + 5 * nb) * 12 = s .size ∙ ap (λ (k : ℕ). (20 + 5 * nb) * k) e in
-        ap length (eight-12 fs w e) ∙ down2-3-length source-filter w ∙ omega arith
+        ap length (eight-12 F fs w e) ∙ down2-3-length F w ∙ omega arith
     by (inr (inr e)) =
         let k : length w ≡ (20 + 5 * nb) * 16 = s .size ∙ ap (λ (k : ℕ). (20 + 5 * nb) * k) e in
-        ap length (eight-16 fs w e) ∙ down2-length w ∙ omega arith
+        ap length (eight-16 F fs w e) ∙ down2-length w ∙ omega arith
 
 pub length-four : (e : List ℤ) → length (down-to-4khz e) ≡ length e / 2
 unfolding down-to-4khz

@@ -11,11 +11,12 @@ use Rattle.zint.specs.Clamp.{sat}
 use Rattle.lists.specs.Fill.{tabulate}
 use Rattle.lists.specs.Signal.{sample}
 use Rattle.silk_resampler.specs.Down2.{down2}
-use Rattle.silk_resampler.specs.Down23.{source-filter, down2-3}
+use Rattle.silk_resampler.specs.declared.Filter.{Filter}
+use Rattle.silk_resampler.specs.Down23.{down2-3}
 
--- e, of the rate fs and w: half the rate of 16 kHz, two thirds of 12 kHz, and w itself at 8 kHz
-unfoldable pub down-to-8khz : ℕ → List ℤ → List ℤ
-down-to-8khz fs w = cond (eqb fs 16) (down2 w) (cond (eqb fs 12) (down2-3 source-filter w) w)
+-- e, of the 12 kHz filter F, the rate fs and w: half the rate of 16 kHz, two thirds of 12 kHz, and w itself at 8 kHz
+unfoldable pub down-to-8khz : Filter → ℕ → List ℤ → List ℤ
+down-to-8khz F fs w = cond (eqb fs 16) (down2 w) (cond (eqb fs 12) (down2-3 F w) w)
 
 -- each sample with the one before it, held within 16 bits; the first alone
 unfoldable pub two-tap : (ℕ → ℤ) → ℕ → ℤ

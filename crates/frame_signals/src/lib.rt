@@ -6,13 +6,13 @@ ghost use lib.ListN.{length, take};
 ghost use Rattle.lists.specs.Fill.{filled, overwritten};
 ghost use Rattle.lists.specs.Signal.{sample};
 ghost use Rattle.silk_resampler.specs.Down2.{down2};
-ghost use Rattle.silk_resampler.specs.Down23.{source-filter, down2-3};
+ghost use Rattle.silk_resampler.specs.Down23.{UsableFilter, down2-3};
 ghost use Rattle.frame_signals.specs.Scale.{down-shift, shifted-at, moved-count, holder};
 ghost use Rattle.frame_signals.specs.Signals.{down-to-8khz, two-tap, down-to-4khz};
 use silk_macros::silk_add_sat16;
+use silk_resampler::Filter;
 use silk_resampler::silk_resampler_down2;
 use silk_resampler::silk_resampler_down2_3;
-use silk_resampler::source_filter;
 use silk_sigproc::bits_over;
 use silk_sigproc::silk_sum_sqr_shift;
 
@@ -68,24 +68,24 @@ fn halve_into(frame: &[i16], out: &mut [i16])
     silk_resampler_down2(&mut filt_state, out, frame, frame.len());
 }
 
-// Two thirds of the rate, from states of 0.
-fn two_thirds_into(frame: &[i16], out: &mut [i16])
-    requires { ⌜ (2 * (length (now frame) / 3) ≤ length (now out)) × (length (now frame) ≤ 480) ⌝ }
-    ensures { λ r. ⌜ now (out .exit) ≡ overwritten (down2-3 source-filter (now (frame .entry))) (now (out .entry)) ⌝ }
+// Two thirds of the rate by a filter, from states of 0.
+fn two_thirds_into(frame: &[i16], out: &mut [i16], filter: Filter)
+    requires { ⌜ (2 * (length (now frame) / 3) ≤ length (now out)) × ((length (now frame) ≤ 480) × UsableFilter filter) ⌝ }
+    ensures { λ r. ⌜ now (out .exit) ≡ overwritten (down2-3 filter (now (frame .entry))) (now (out .entry)) ⌝ }
 {
     let mut filt_state = [0i32; 6];
-    silk_resampler_down2_3(&mut filt_state, out, frame, frame.len(), source_filter());
+    silk_resampler_down2_3(&mut filt_state, out, frame, frame.len(), filter);
 }
 
-// The working frame at 8 kHz, in the first places of out; at 8 kHz it is a copy.
-pub fn frame_8khz(frame: &[i16], out: &mut [i16], fs_khz: usize)
-    requires { ⌜ (length (down-to-8khz «fs_khz» (now frame)) ≤ length (now out)) × («fs_khz» ≡ 12 → length (now frame) ≤ 480) ⌝ }
-    ensures { λ r. ⌜ now (out .exit) ≡ overwritten (down-to-8khz «fs_khz» (now (frame .entry))) (now (out .entry)) ⌝ }
+// The working frame at 8 kHz, in the first places of out, at 12 kHz by a filter; at 8 kHz it is a copy.
+pub fn frame_8khz(frame: &[i16], out: &mut [i16], fs_khz: usize, filter: Filter)
+    requires { ⌜ (length (down-to-8khz filter «fs_khz» (now frame)) ≤ length (now out)) × ((«fs_khz» ≡ 12 → length (now frame) ≤ 480) × UsableFilter filter) ⌝ }
+    ensures { λ r. ⌜ now (out .exit) ≡ overwritten (down-to-8khz filter «fs_khz» (now (frame .entry))) (now (out .entry)) ⌝ }
 {
     if fs_khz == 16 {
         halve_into(frame, out);
     } else if fs_khz == 12 {
-        two_thirds_into(frame, out);
+        two_thirds_into(frame, out, filter);
     } else {
         copy_into(frame, out);
     }

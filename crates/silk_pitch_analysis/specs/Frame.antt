@@ -13,6 +13,7 @@ use Rattle.pitch_settings.specs.Settings.{settings-no, frame-length}
 use Rattle.pitch_table.specs.declared.Row.{Row}
 use Rattle.pitch_table.specs.Row.{numbers, pair-lag, voiced-row, unpitched-row}
 use Rattle.frame_signals.specs.Scale.{scaled}
+use Rattle.silk_resampler.specs.Down23.{source-filter}
 use Rattle.frame_signals.specs.Signals.{down-to-8khz, down-to-4khz}
 use Rattle.stage1.specs.Stage1.{stage1, kept-lags}
 use Rattle.stage1.specs.declared.Screen.{Screen}
@@ -33,7 +34,7 @@ use Rattle.silk_pitch_analysis.specs.declared.RowAnswer.the-variants.{An
 -- ---- the signals: the working frame w, its 8 kHz form e and its 4 kHz form f
 
 abbrev pub signal8 : Settings → List ℤ → List ℤ
-signal8 s w = down-to-8khz (s .rate) w
+signal8 s w = down-to-8khz source-filter (s .rate) w
 
 abbrev pub signal4 : Settings → List ℤ → List ℤ
 signal4 s w = down-to-4khz (signal8 s w)

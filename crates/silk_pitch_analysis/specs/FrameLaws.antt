@@ -20,8 +20,9 @@ use Rattle.pitch_table.specs.Row.{numbers}
 use Rattle.silk_tables.specs.Tables.{contours, contours2, in-use, greatest-lag, greatest-index}
 use Rattle.silk_tables.specs.TableLaws.{in-use-bounds}
 use Rattle.silk_tables.specs.ContourLaws.{contours-le-34}
-use Rattle.silk_tables.specs.Rebuild.{CarriedPair, Coded}
-use Rattle.silk_tables.specs.CarriedLaws.{accepted-of, carried-pair, contour-abs, coded as pair-coded}
+use Rattle.silk_tables.specs.Rebuild.{carried, CarriedPair}
+use Rattle.silk_tables.specs.CarriedLaws.{carried-pair, carried-yes}
+use Rattle.silk_resampler.specs.Down23.{source-filter}
 use Rattle.frame_signals.specs.Signals.{down-to-8khz, down-to-4khz}
 use Rattle.frame_signals.specs.SignalLaws.{length-eight, length-four}
 use Rattle.stage3.specs.Stage3.{stage3, Handed}
@@ -82,12 +83,12 @@ module _ (s : Settings) (w : List ℤ) (h : settings-no s ≡ 0) (len : length w
 -- ---- the signals of a working frame
 
 module _ (s : Settings) (w : List ℤ) (h : settings-no s ≡ 0) (len : length w ≡ frame-length s) where
-  pub eight-length : length (down-to-8khz (s .rate) w) ≡ (20 + 5 * s .nb) * 8
+  pub eight-length : length (down-to-8khz source-filter (s .rate) w) ≡ (20 + 5 * s .nb) * 8
   unfolding frame-length
-  eight-length = length-eight (record { rate = accepted-settings s h .rate; size = len })
+  eight-length = length-eight source-filter (record { rate = accepted-settings s h .rate; size = len })
 
-  pub four-length : length (down-to-4khz (down-to-8khz (s .rate) w)) ≡ (20 + 5 * s .nb) * 4
-  four-length = length-four (down-to-8khz (s .rate) w) ∙ omega (arith, eight-length)
+  pub four-length : length (down-to-4khz (down-to-8khz source-filter (s .rate) w)) ≡ (20 + 5 * s .nb) * 4
+  four-length = length-four (down-to-8khz source-filter (s .rate) w) ∙ omega (arith, eight-length)
 
   -- at 12 kHz a frame has at most 480 samples
   pub at-12 : s .rate ≡ 12 → length w ≤ 480

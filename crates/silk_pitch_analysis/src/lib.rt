@@ -22,6 +22,7 @@ use pitch_table::Row;
 use pitch_table::pair_lag;
 use pitch_table::unpitched_row;
 use pitch_table::voiced_row;
+use silk_resampler::source_filter;
 use stage1::Screen;
 use stage1::search_stage1;
 use stage2::Stage2;
@@ -209,7 +210,7 @@ fn analyse_working(w: &[i16], s: Settings, prev_lag: i32, prev_corr: i32) -> Ver
     let nb = s.nb;
     let n8 = (20 + 5 * nb) * 8;
     let n4 = (20 + 5 * nb) * 4;
-    frame_8khz(w, &mut buf_8khz, fs_khz);
+    frame_8khz(w, &mut buf_8khz, fs_khz, source_filter());
     frame_4khz(&buf_8khz[..n8], &mut buf_4khz);
     stages(w, &buf_8khz[..n8], &buf_4khz[..n4], s, prev_lag, prev_corr)
 }

@@ -1,11 +1,9 @@
 -- `frame_signals::two_thirds_into` meets its contract.
-use mathlib.Core.Path.{ap, _∙_}
+use mathlib.Core.Path.{_∙_}
 use Prim.Native.Nat.{_*_, _/_}
 use borrow.Author.Needs.{needs}
 use lib.ListN.{length}
-use Rattle.silk_resampler.specs.declared.Filter.{Filter}
 use Rattle.silk_resampler.specs.Down23.{down2-3}
-use Rattle.lists.specs.Fill.{overwritten}
 use Rattle.lists.specs.PushLaws.{filled-overwritten}
 use Rattle.frame_signals.proofs.two_thirds_into.Statement.{statement}
 use Rattle.frame_signals.proofs.two_thirds_into.Tie as tie
@@ -14,12 +12,10 @@ returns : tie.Need-returns
 unfolding down2-3
 returns c =
     let d = c .before .before in
-    let a = d .before .before .before .before .args in
-    d .silk-resampler-down2-3 .ensures .0
-    ∙ filled-overwritten _ (2 * (length (a .frame .now) / 3)) (a .out .now)
-    ∙ ap (λ (F : Filter). overwritten (down2-3 F (a .frame .now)) (a .out .now)) (d .before .source-filter .ensures .0)
+    let a = d .before .before .before .args in
+    d .silk-resampler-down2-3 .ensures .0 ∙ filled-overwritten _ (2 * (length (a .frame .now) / 3)) (a .out .now)
 
 pub two-thirds-into-spec : {M : Type 1} → statement M
 two-thirds-into-spec =
     tie.close
-    (tie.spec (λ c. search needs) (λ c κs. search needs) (λ c κs. search needs) (λ c. search needs) returns)
+    (tie.spec (λ c. search needs) (λ c κs. search needs) (λ c. search needs) returns)

@@ -9,6 +9,8 @@ use Rattle.zint.specs.ReadLaws.{r-var}
 use Rattle.zint.specs.RuleLaws.{zneeds}
 use Rattle.lists.specs.Fill.{overwritten}
 use Rattle.pitch_settings.specs.SettingsLaws.{accepted-settings}
+use Rattle.silk_resampler.specs.declared.Filter.{Filter}
+use Rattle.silk_resampler.specs.Down23.{source-filter}
 use Rattle.frame_signals.specs.Signals.{down-to-8khz, down-to-4khz}
 use Rattle.frame_signals.specs.SignalLaws.{take-overwritten}
 use Rattle.stage1.specs.Stage1.{stage1}
@@ -21,16 +23,18 @@ use Rattle.silk_pitch_analysis.proofs.analyse_working.Tie as tie
 -- the 8 kHz signal in the buffer
 module _ (c : tie.After-frame-8khz) where
   abbrev start : tie.Start
-  start = c .before .before
+  start = c .before .before .before
 
   abbrev n8 : ℕ
   n8 = (20 + 5 * start .args .s .nb) * 8
 
-  e-length : length (down-to-8khz (start .args .s .rate) (start .args .w .now)) ≡ n8
+  e-length : length (down-to-8khz source-filter (start .args .s .rate) (start .args .w .now)) ≡ n8
   e-length = eight-length (start .args .s) (start .args .w .now) (start .pre .0) (start .pre .1)
 
-  e-front : take n8 (c .frame-8khz .last .1 .0) ≡ down-to-8khz (start .args .s .rate) (start .args .w .now)
-  e-front = ap (take n8) (c .frame-8khz .ensures) ∙ take-overwritten _ _ n8 e-length
+  e-front : take n8 (c .frame-8khz .last .1 .0) ≡ down-to-8khz source-filter (start .args .s .rate) (start .args .w .now)
+  e-front =
+      ap (take n8) (c .frame-8khz .ensures ∙ ap (λ (F : Filter). overwritten (down-to-8khz F (start .args .s .rate) (start .args .w .now)) (replicate 320 (pos 0))) (c .before .source-filter .ensures .0))
+      ∙ take-overwritten _ _ n8 e-length
 
   e-room : n8 ≤ length (c .frame-8khz .last .1 .0)
   e-room = omega (arith, c .frame-8khz .kept .1 .0, accepted-settings _ (start .pre .0) .nb-high)
@@ -44,7 +48,7 @@ module _ (g : tie.After-frame-4khz) where
   n4 = (20 + 5 * start eighth .args .s .nb) * 4
 
   abbrev e : List ℤ
-  e = down-to-8khz (start eighth .args .s .rate) (start eighth .args .w .now)
+  e = down-to-8khz source-filter (start eighth .args .s .rate) (start eighth .args .w .now)
 
   f-length : length (down-to-4khz e) ≡ n4
   f-length = four-length (start eighth .args .s) (start eighth .args .w .now) (start eighth .pre .0) (start eighth .pre .1)
@@ -59,8 +63,11 @@ module _ (g : tie.After-frame-4khz) where
 
 frame-8khz-requires : tie.Need-frame-8khz-requires
 frame-8khz-requires c κs =
-    let s = c .before in
-    (omega (arith, eight-length (s .args .s) (s .args .w .now) (s .pre .0) (s .pre .1), accepted-settings _ (s .pre .0) .nb-high), at-12 (s .args .s) (s .args .w .now) (s .pre .0) (s .pre .1))
+    let s = c .before .before in
+    let f = c .source-filter .ensures in
+    let l : length (down-to-8khz (c .source-filter .result) (s .args .s .rate) (s .args .w .now)) ≡ (20 + 5 * s .args .s .nb) * 8 =
+    ap (λ (F : Filter). length (down-to-8khz F (s .args .s .rate) (s .args .w .now))) (f .0) ∙ eight-length (s .args .s) (s .args .w .now) (s .pre .0) (s .pre .1) in
+    (omega (arith, l, accepted-settings _ (s .pre .0) .nb-high), (at-12 (s .args .s) (s .args .w .now) (s .pre .0) (s .pre .1), f .1))
 
 array-share-prefix-buf-8khz : tie.Need-array-share-prefix-buf-8khz
 array-share-prefix-buf-8khz c = e-room (c .before)
@@ -104,5 +111,5 @@ analyse-working-spec =
     (tie.spec (λ c. omega (arith, accepted-settings _ (c .pre .0) .nb-high)) (λ c. omega (arith, accepted-settings _ (c .pre .0) .nb-high))
     (λ c. omega (arith, accepted-settings _ (c .pre .0) .nb-high)) (λ c. omega (arith, accepted-settings _ (c .pre .0) .nb-high))
     (λ c. omega (arith, accepted-settings _ (c .pre .0) .nb-high)) (λ c. omega (arith, accepted-settings _ (c .pre .0) .nb-high)) (λ c. refl)
-    frame-8khz-requires array-share-prefix-buf-8khz slice-aggregate-frame-4khz (λ c. refl) frame-4khz-requires array-share-prefix-buf-8khz-2
+    (λ c κs. search zneeds) frame-8khz-requires array-share-prefix-buf-8khz slice-aggregate-frame-4khz (λ c. refl) frame-4khz-requires array-share-prefix-buf-8khz-2
     slice-aggregate-stages array-share-prefix-buf-4khz slice-aggregate-stages-2 stages-requires returns)
