@@ -19,7 +19,7 @@ use silk_macros::silk_div32_varq;
 use silk_macros::silk_smlawb;
 use silk_macros::silk_smulbb;
 use silk_macros::silk_smulwb;
-use silk_sigproc::energy_from;
+use silk_sigproc::energy_of_40;
 use silk_sigproc::silk_pitch_xcorr;
 use silk_sigproc::square;
 use silk_sort::silk_insertion_sort_decreasing_int16;
@@ -82,11 +82,8 @@ fn first_normalizer(frame_4khz: &[i16], h: usize) -> i32
     ensures { λ r. ⌜ r ≡ divisor1 (now («frame_4khz» .entry)) h 8 ⌝ }
 {
     let target = target(h);
-    let mut normalizer = energy_from(frame_4khz, target, SF_LENGTH_8KHZ);
-    normalizer = wrapping_add_i32(
-        normalizer,
-        energy_from(frame_4khz, target - MIN_LAG_4KHZ, SF_LENGTH_8KHZ),
-    );
+    let mut normalizer = energy_of_40(frame_4khz, target);
+    normalizer = wrapping_add_i32(normalizer, energy_of_40(frame_4khz, target - MIN_LAG_4KHZ));
     wrapping_add_i32(normalizer, silk_smulbb(SF_LENGTH_8KHZ as i32, 4000))
 }
 

@@ -13,7 +13,7 @@ ghost use Rattle.stage2_correlations.specs.Correlations.{target2};
 ghost use Rattle.stage2_correlations.specs.Rows.{ratio-of, at-lag, subframe-row};
 use silk_macros::Quotient;
 use silk_macros::silk_div32_varq;
-use silk_sigproc::energy_from;
+use silk_sigproc::energy_of_40;
 use silk_sigproc::silk_inner_prod_aligned;
 use silk_sigproc::square;
 use silk_tables::MAX_LAG_8KHZ;
@@ -154,8 +154,8 @@ pub fn subframe_row(frame_8khz: &[i16], k: usize, marks: &[bool; 132]) -> Subfra
     ensures { λ r. ⌜ r ≡ subframe-row (now («frame_8khz» .entry)) (now (marks .entry)) k ⌝ }
 {
     let target = 160 + SF_LENGTH_8KHZ * k;
-    let energy_target = wrapping_add_i32(energy_from(frame_8khz, target, SF_LENGTH_8KHZ), 1);
-    let mut energy_basis = energy_from(frame_8khz, target - 14, SF_LENGTH_8KHZ);
+    let energy_target = wrapping_add_i32(energy_of_40(frame_8khz, target), 1);
+    let mut energy_basis = energy_of_40(frame_8khz, target - 14);
     let mut c_8khz = [0i16; 132];
     let mut zero = false;
     for i in 0..132 {

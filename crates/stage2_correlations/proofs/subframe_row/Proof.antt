@@ -30,21 +30,21 @@ Inv-loop frame-8khz k marks target energy-target energy-basis₀ c-8khz₀ zero�
 abbrev μ-loop : tie.MeasureT-loop
 μ-loop frame-8khz k marks target energy-target energy-basis₀ c-8khz₀ zero₀ i₀ energy-basis c-8khz zero i = 132 - i
 
-energy-from-requires : tie.Need-energy-from-requires Inv-loop μ-loop
+energy-of-40-requires : tie.Need-energy-of-40-requires Inv-loop μ-loop
 unfolding start-of
-energy-from-requires c κs = c .pre .1
+energy-of-40-requires c κs = c .pre .1
 
-energy-from-requires-2 : tie.Need-energy-from-requires-2 Inv-loop μ-loop
+energy-of-40-requires-2 : tie.Need-energy-of-40-requires-2 Inv-loop μ-loop
 unfolding start-of
-energy-from-requires-2 c κs = omega arith
+energy-of-40-requires-2 c κs = omega arith
 
 loop-holds : tie.Need-loop-holds Inv-loop μ-loop
 unfolding start-of some
 loop-holds c =
-    let a = c .before .before .energy-from in
+    let a = c .before .before .energy-of-40 in
     let b = c .before .wrapping-add-i32 in
     let t = r-call2 w32 (λ (x y : ℤ). wrap w32 (x +ℤ y)) (b .ok) (r-got w32 (a .ok) (a .ensures)) (r-lit w32 1 tt) (b .ensures) .val in
-    let u = r-got w32 (c .energy-from2 .ok) (c .energy-from2 .ensures) .val in
+    let u = r-got w32 (c .energy-of-402 .ok) (c .energy-of-402 .ensures) .val in
     (omega arith, (refl, (t, (u, (filled-none _ _, refl)))))
 
 correlate-requires : tie.Need-correlate-requires Inv-loop μ-loop
@@ -129,7 +129,7 @@ returns c =
 pub subframe-row-spec : {M : Type 1} → statement M
 subframe-row-spec =
     tie.close
-    (tie.spec Inv-loop μ-loop (λ c. search zneeds) (λ c. search zneeds) energy-from-requires (λ c κs. search zneeds) (λ c. search zneeds) energy-from-requires-2
+    (tie.spec Inv-loop μ-loop (λ c. search zneeds) (λ c. search zneeds) energy-of-40-requires (λ c κs. search zneeds) (λ c. search zneeds) energy-of-40-requires-2
     loop-holds (λ c κs. search zneeds) (λ c. search zneeds) (λ c. search zneeds) correlate-requires (λ c. search zneeds) (λ c. search zneeds)
     (λ c. search zneeds) (λ c. search zneeds) (λ c. search zneeds) (λ c. search zneeds) shared-slice-copy-out-slide (λ c. search zneeds)
     shared-slice-copy-out-slide-2 (λ c κs. search zneeds) (λ c. search zneeds) (λ c. search zneeds) loop-again returns)
