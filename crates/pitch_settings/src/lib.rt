@@ -57,6 +57,22 @@ fn settings_refusal(rate: usize, nb: usize, known: bool) -> usize
     1
 }
 
+// The number of the refusal of settings that are not analysed, or 0.
+pub fn settings_no(s: Settings) -> usize
+    ensures { λ r. ⌜ r ≡ settings-no s ⌝ }
+{
+    let analysed = s.complexity <= 2;
+    settings_refusal(s.rate, s.nb, analysed)
+}
+
+// The number of the refusal of settings that a sheet can't hold, or 0.
+pub fn held_no(s: Settings) -> usize
+    ensures { λ r. ⌜ r ≡ held-no s ⌝ }
+{
+    let held = s.complexity <= 2;
+    settings_refusal(s.rate, s.nb, held)
+}
+
 // The samples of the longest frame: 16 kHz, four subframes.
 pub const LONGEST_FRAME: usize = 640;
 

@@ -8,7 +8,7 @@ use lib.IntN.{ℤ, pos}
 use lib.ListN.{length, drop}
 use Rattle.best.specs.Best.{every}
 use Rattle.pitch_settings.specs.declared.Settings.{Settings}
-use Rattle.pitch_settings.specs.Settings.{settings-no}
+use Rattle.pitch_settings.specs.Settings.{held-no}
 use Rattle.pitch_table.specs.Row.{row-size, most-frames, row-at}
 use Rattle.sheet_rows.specs.Rows.{row-holds}
 use Rattle.sheet_sections.specs.Sheet.{setting-numbers, rows-of, sheet}
@@ -32,7 +32,7 @@ rows-hold s t n = every n (λ i. row-holds s (row-at t i))
 -- fewer whole rows; 8 the page is shorter than the sheet
 unfoldable pub write-no : Settings → ℕ → List ℤ → ℕ → ℕ
 write-no s n t room =
-    cond (eqb (settings-no s) 0)
+    cond (eqb (held-no s) 0)
     (cond (leb n most-frames)
     (cond (rows-hold s t (min n (whole-rows t)))
     (cond (leb n (whole-rows t))
@@ -40,7 +40,7 @@ write-no s n t room =
     7)
     9)
     6)
-    (settings-no s)
+    (held-no s)
 
 pub record WriteOutcome : Type 0 where
   pub answer : Wrote

@@ -13,7 +13,7 @@ use Rattle.answers.specs.Answer.{answer-numbers}
 use Rattle.best.specs.BestLaws.{every-true, every-false}
 use Rattle.lists.specs.FillLaws.{length-tabulate}
 use Rattle.pitch_settings.specs.declared.Settings.{Settings}
-use Rattle.pitch_settings.specs.Settings.{settings-no}
+use Rattle.pitch_settings.specs.Settings.{held-no}
 use Rattle.pitch_table.specs.Row.{row-size, most-frames, row-at}
 use Rattle.sheet_rows.specs.Rows.{row-holds}
 use Rattle.sheet_sections.specs.Sheet.{setting-numbers, rows-of, sheet}
@@ -46,54 +46,54 @@ module _ (s : Settings) (t : List ℤ) (n : ℕ) where
 -- ---- writing
 
 module _ (s : Settings) (n : ℕ) (t : List ℤ) (room : ℕ) where
-  pub no-settings : (settings-no s ≡ 0 → ⊥) → write-no s n t room ≡ settings-no s
+  pub no-settings : (held-no s ≡ 0 → ⊥) → write-no s n t room ≡ held-no s
   unfolding write-no
-  no-settings g = rw (ne-eqb (settings-no s) 0 g)
+  no-settings g = rw (ne-eqb (held-no s) 0 g)
 
-  module _ (a : settings-no s ≡ 0) where
+  module _ (a : held-no s ≡ 0) where
     pub no-frames : most-frames < n → write-no s n t room ≡ 6
     unfolding write-no
-    no-frames h = rw (eq-eqb (settings-no s) 0 a, lt-leb n most-frames h)
+    no-frames h = rw (eq-eqb (held-no s) 0 a, lt-leb n most-frames h)
 
     module _ (h : n ≤ most-frames) where
       -- the rows that are there
       pub no-rows : {m : ℕ} → m ≡ min n (whole-rows t) → rows-hold s t m ≡ false → write-no s n t room ≡ 9
       unfolding write-no
-      no-rows e f = rw (eq-eqb (settings-no s) 0 a, le-leb n most-frames h, ← e, f)
+      no-rows e f = rw (eq-eqb (held-no s) 0 a, le-leb n most-frames h, ← e, f)
 
       module _ {m : ℕ} (e : m ≡ min n (whole-rows t)) (f : rows-hold s t m ≡ true) where
         pub no-table : whole-rows t < n → write-no s n t room ≡ 7
         unfolding write-no
-        no-table k = rw (eq-eqb (settings-no s) 0 a, le-leb n most-frames h, ← e, f, lt-leb n (whole-rows t) k)
+        no-table k = rw (eq-eqb (held-no s) 0 a, le-leb n most-frames h, ← e, f, lt-leb n (whole-rows t) k)
 
         module _ (k : n ≤ whole-rows t) where
           pub no-room : room < length (sheet s (rows-of t n)) → write-no s n t room ≡ 8
           unfolding write-no
-          no-room l = rw (eq-eqb (settings-no s) 0 a, le-leb n most-frames h, ← e, f, le-leb n (whole-rows t) k, lt-leb (length (sheet s (rows-of t n))) room l)
+          no-room l = rw (eq-eqb (held-no s) 0 a, le-leb n most-frames h, ← e, f, le-leb n (whole-rows t) k, lt-leb (length (sheet s (rows-of t n))) room l)
 
           pub no-refusal : length (sheet s (rows-of t n)) ≤ room → write-no s n t room ≡ 0
           unfolding write-no
-          no-refusal l = rw (eq-eqb (settings-no s) 0 a, le-leb n most-frames h, ← e, f, le-leb n (whole-rows t) k, le-leb (length (sheet s (rows-of t n))) room l)
+          no-refusal l = rw (eq-eqb (held-no s) 0 a, le-leb n most-frames h, ← e, f, le-leb n (whole-rows t) k, le-leb (length (sheet s (rows-of t n))) room l)
 
   -- what is known where nothing is refused
-  pub record Accepted : Type 0 where
-    pub settings : settings-no s ≡ 0
+  pub record Writable : Type 0 where
+    pub settings : held-no s ≡ 0
     pub few : n ≤ most-frames
     pub whole : n * row-size ≤ length t
     pub rows : (i : ℕ) → i < n → row-holds s (row-at t i) ≡ true
     pub fits : length (sheet s (rows-of t n)) ≤ room
 
-  pub accepted : write-no s n t room ≡ 0 → Accepted
+  pub writable : write-no s n t room ≡ 0 → Writable
   unfolding write-no
-  accepted z = by (eqb (settings-no s) 0) (leb n most-frames) (rows-hold s t (min n (whole-rows t))) (leb n (whole-rows t)) (leb (length (sheet s (rows-of t n))) room) refl refl refl refl refl z
+  writable z = by (eqb (held-no s) 0) (leb n most-frames) (rows-hold s t (min n (whole-rows t))) (leb n (whole-rows t)) (leb (length (sheet s (rows-of t n))) room) refl refl refl refl refl z
     where
-      by : (a b c d e : Bool) → eqb (settings-no s) 0 ≡ a → leb n most-frames ≡ b → rows-hold s t (min n (whole-rows t)) ≡ c → leb n (whole-rows t) ≡ d → leb (length (sheet s (rows-of t n))) room ≡ e
-          → cond a (cond b (cond c (cond d (cond e 0 8) 7) 9) 6) (settings-no s) ≡ 0 → Accepted
+      by : (a b c d e : Bool) → eqb (held-no s) 0 ≡ a → leb n most-frames ≡ b → rows-hold s t (min n (whole-rows t)) ≡ c → leb n (whole-rows t) ≡ d → leb (length (sheet s (rows-of t n))) room ≡ e
+          → cond a (cond b (cond c (cond d (cond e 0 8) 7) 9) 6) (held-no s) ≡ 0 → Writable
       by true true true true true p q r u v z =
           let l = leb-true n (whole-rows t) u in
           let m : min n (whole-rows t) ≡ n = omega arith in
           record {
-            settings = eqb-true (settings-no s) 0 p;
+            settings = eqb-true (held-no s) 0 p;
             few = leb-true n most-frames q;
             whole = omega arith;
             rows = hold-each s t n (ap (rows-hold s t) (sym m) ∙ r);
@@ -103,7 +103,7 @@ module _ (s : Settings) (n : ℕ) (t : List ℤ) (room : ℕ) where
       by true true true false e p q r u v z = absurd (omega arith)
       by true true false d e p q r u v z = absurd (omega arith)
       by true false c d e p q r u v z = absurd (omega arith)
-      by false b c d e p q r u v z = absurd (false≢true (sym p ∙ eq-eqb (settings-no s) 0 z))
+      by false b c d e p q r u v z = absurd (false≢true (sym p ∙ eq-eqb (held-no s) 0 z))
 
 module _ (s : Settings) (n : ℕ) (t : List ℤ) (page : List ℕ) where
   pub write-refused : (write-no s n t (length page) ≡ 0 → ⊥) → write-call s n t page ≡ wrote (NotWritten (write-no s n t (length page))) page

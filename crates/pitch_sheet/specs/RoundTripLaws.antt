@@ -15,11 +15,10 @@ use Rattle.zint.specs.Equal.{eqZ}
 use Rattle.lists.specs.Fill.{tabulate}
 use Rattle.lists.specs.FillLaws.{length-tabulate, getD-tabulate, tabulate-is as table-of}
 use Rattle.pitch_settings.specs.declared.Settings.{Settings}
-use Rattle.pitch_settings.specs.Settings.{settings-no}
+use Rattle.pitch_settings.specs.Settings.{held-no}
 use Rattle.pitch_table.specs.declared.Row.{Row}
-use Rattle.pitch_table.specs.Row.{row-size, most-frames, numbers, row-at}
+use Rattle.pitch_table.specs.Row.{row-size, most-frames, numbers, row-at, voiced-row, unpitched-row}
 use Rattle.sheet_bytes.specs.Bytes.{Bytes}
-use Rattle.pitch_table.specs.Row.{voiced-row, unpitched-row}
 use Rattle.sheet_rows.specs.Rows.{row-holds}
 use Rattle.sheet_sections.specs.declared.Section.the-variants.{Pairs}
 use Rattle.sheet_sections.specs.Sheet.{has-entry, section-entries, sheet, sheet-length, rows-of}
@@ -29,7 +28,7 @@ use Rattle.sheet_page.specs.PageLaws.{numbers-append, numbers-length}
 use Rattle.pitch_sheet.specs.declared.Wrote.the-variants.{Written}
 use Rattle.pitch_sheet.specs.declared.Got.the-variants.{Read, Refused as NotRead}
 use Rattle.pitch_sheet.specs.Calls.{whole-rows, rows-hold, write-no, wrote, write-call, got, read-call, WriteOutcome, ReadOutcome}
-use Rattle.pitch_sheet.specs.CallsLaws.{accepted, hold-all, no-refusal, write-refused, write-done, page-sheet, sheet-page, read-malformed, read-short, read-done, rows-in-length}
+use Rattle.pitch_sheet.specs.CallsLaws.{writable, hold-all, no-refusal, write-refused, write-done, page-sheet, sheet-page, read-malformed, read-short, read-done, rows-in-length}
 use Rattle.pitch_sheet.specs.Holds.{no-row, Holds}
 use Rattle.pitch_sheet.specs.SheetReadLaws.{sheet-well-formed, settings-read, sheet-frames, sheet-rows}
 use Rattle.pitch_sheet.specs.PageWrittenLaws as written
@@ -74,7 +73,7 @@ module _ (t : List ℤ) where
 
 -- a table that begins with the numbers of rows has those rows
 module _ (rs : List Row) (rest : List ℤ) where
-  row-back : (i : ℕ) → i < length rs → row-at (numbers-of rs ++ rest) i ≡ getD rs i no-row
+  pub row-back : (i : ℕ) → i < length rs → row-at (numbers-of rs ++ rest) i ≡ getD rs i no-row
   unfolding row-at numbers-of
   row-back i h =
       let r = getD rs i no-row in
@@ -141,7 +140,7 @@ module _ (s : Settings) (n : ℕ) (t : List ℤ) (page : List ℕ) (k : ℕ) (af
   rows-written : SFits w32 (s .thres1) → SFits w32 (s .thres2) → Words t → Holds s (rows-of t n)
   unfolding rows-of row-at
   rows-written a b w =
-      let g = accepted s n t (length page) not-refused in
+      let g = writable s n t (length page) not-refused in
       let at : (i : ℕ) → i < n → getD (rows-of t n) i no-row ≡ row-at t i = λ i l. getD-tabulate (row-at t) n i no-row l in
       record {
         settings = g .settings;
@@ -156,7 +155,7 @@ module _ (s : Settings) (n : ℕ) (t : List ℤ) (page : List ℕ) (k : ℕ) (af
   written-reads a b w into l =
       let rs = rows-of t n in
       let m = length-rows t n in
-      let e = rows-numbers t n (accepted s n t (length page) not-refused .whole) in
+      let e = rows-numbers t n (writable s n t (length page) not-refused .whole) in
       ap (λ (p : List ℕ). read-call p into) front-written
       ∙ sheet-reads s rs into (rows-written a b w) (omega (arith, m))
       ∙ (λ u. got (Read s (m u)) (e u ++ drop (m u * row-size) into))
@@ -217,7 +216,7 @@ module _ (p : List ℕ) (t : List ℤ) (s : Settings) (n : ℕ) (after : List �
   read-writes : (page : List ℕ) → length p ≤ length page → write-call s n after page ≡ wrote (Written (length p)) (p ++ drop (length p) page)
   read-writes page l =
       let h = written.page-holds p bytes (page-sheet p (found .fine)) in
-      let a : settings-no s ≡ 0 = ap settings-no (sym settings-are) ∙ h .settings in
+      let a : held-no s ≡ 0 = ap held-no (sym settings-are) ∙ h .settings in
       let b : n ≤ most-frames = omega (arith, h .few, rows-length, frames-are) in
       let r : rows-hold s after n ≡ true =
       hold-all s after n (λ i k. (λ u. row-holds (sym settings-are u) (row-read i k u)) ∙ h .rows i (omega (arith, rows-length, frames-are))) in
@@ -269,9 +268,9 @@ no-frames : (s : Settings) → length (sheet s []) ≡ 36
 unfolding section-entries
 no-frames s = length-sheet s []
 
-one-unvoiced : (s : Settings) → length (sheet s (quiet-row (pos 1) ∷ [])) ≡ 37
-unfolding section-entries has-entry quiet-row eqZ
-one-unvoiced s = length-sheet s (quiet-row (pos 1) ∷ [])
+one-unvoiced : (s : Settings) → length (sheet s (unpitched-row (pos 1) ∷ [])) ≡ 37
+unfolding section-entries has-entry unpitched-row eqZ
+one-unvoiced s = length-sheet s (unpitched-row (pos 1) ∷ [])
 
 one-voiced : (s : Settings) (index contour correlation : ℤ) → length (sheet s (voiced-row s index contour correlation ∷ [])) ≡ 44
 unfolding section-entries has-entry voiced-row eqZ

@@ -16,8 +16,8 @@ use mir.Syntax.{w32}
 use Rattle.zint.specs.Wrap.{wrap}
 use Rattle.lists.specs.FillLaws.{tabulate-is}
 use Rattle.pitch_settings.specs.declared.Settings.{Settings}
-use Rattle.pitch_settings.specs.Settings.{settings-no}
-use Rattle.pitch_settings.specs.SettingsLaws.{accepted-settings}
+use Rattle.pitch_settings.specs.Settings.{held-no}
+use Rattle.pitch_settings.specs.SettingsLaws.{held-settings}
 use Rattle.pitch_table.specs.declared.Row.{Row}
 use Rattle.pitch_table.specs.Row.{most-frames}
 use Rattle.sheet_bytes.specs.Bytes.{low-bytes, number, number-at, word, signed, signed-at}
@@ -169,7 +169,7 @@ module _ (s : Settings) (rs : List Row) (h : Holds s rs) where
   settings-are : sheet-settings p ≡ s
   unfolding sheet-settings signed-at setting-numbers
   settings-are =
-      let a = accepted-settings s (h .settings) in
+      let a = held-settings s (h .settings) in
       let u : number-at setting-bytes p (setting-place 0) ≡ s .rate = setting-is 0 (omega arith) ∙ word-nat (s .rate) (omega (arith, a .rate-high)) in
       let w : number-at setting-bytes p (setting-place 1) ≡ s .nb = setting-is 1 (omega arith) ∙ word-nat (s .nb) (omega (arith, a .nb-high)) in
       let x : number-at setting-bytes p (setting-place 2) ≡ s .complexity = setting-is 2 (omega arith) ∙ word-nat (s .complexity) (omega (arith, a .complexity)) in
@@ -386,7 +386,7 @@ module _ (s : Settings) (rs : List Row) (h : Holds s rs) where
   pub sheet-well-formed : well-formed p ≡ true
   unfolding well-formed readable
   sheet-well-formed =
-      let a = head-yes p (record { long = rw whole (long-enough n v); count = counted; settings = ap settings-no settings-are ∙ h .settings; few = rw frames-are (h .few) }) in
+      let a = head-yes p (record { long = rw whole (long-enough n v); count = counted; settings = ap held-no settings-are ∙ h .settings; few = rw frames-are (h .few) }) in
       let b = sizes-yes p (record { whole = whole ∙ ap₂ sheet-length (sym frames-are) (sym all-voiced); pairs = pairs-counted; correlations = correlations-counted }) in
       let c = rows-yes p (λ i l. ap readable (row-is i (omega (arith, frames-are)))) in
       rw (a, b) c

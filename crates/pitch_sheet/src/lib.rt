@@ -5,13 +5,13 @@ ghost use Prim.Native.Nat.{_*_, _≤_};
 ghost use lib.IntN.{pos};
 ghost use lib.ListN.{length};
 ghost use Rattle.answers.specs.Answer.{answer-numbers};
-ghost use Rattle.pitch_settings.specs.Settings.{settings-no};
+ghost use Rattle.pitch_settings.specs.Settings.{held-no};
 ghost use Rattle.sheet_sections.specs.Sheet.{sheet-length, setting-numbers, rows-of, sheet};
 ghost use Rattle.sheet_page.specs.Page.{sheet-settings, frames-in};
 ghost use Rattle.pitch_sheet.specs.Calls.{rows-hold, write-no, wrote, write-call, write-numbers, read-no, got, read-call, read-numbers};
 ghost use Rattle.pitch_table.specs.Row.{row-size, most-frames};
 use pitch_settings::Settings;
-use pitch_settings::settings_no;
+use pitch_settings::held_no;
 use pitch_table::MOST_FRAMES;
 use pitch_table::ROW_SIZE;
 use pitch_table::get_row;
@@ -45,7 +45,7 @@ pub fn longest_sheet() -> usize
 
 // Whether a sheet can hold each of the first rows.
 fn rows_hold(s: Settings, table: &[i32], rows: usize) -> bool
-    requires { ⌜ (settings-no s ≡ 0) × (rows * row-size ≤ length (now table)) ⌝ }
+    requires { ⌜ (held-no s ≡ 0) × (rows * row-size ≤ length (now table)) ⌝ }
     ensures { λ r. ⌜ r ≡ rows-hold s (now (table .entry)) rows ⌝ }
 {
     for i in 0..rows {
@@ -61,7 +61,7 @@ fn rows_hold(s: Settings, table: &[i32], rows: usize) -> bool
 fn write_no(s: Settings, frames: usize, table: &[i32], room: usize) -> usize
     ensures { λ r. ⌜ r ≡ write-no s frames (now (table .entry)) room ⌝ }
 {
-    let no = settings_no(s);
+    let no = held_no(s);
     if no != 0 {
         return no;
     }

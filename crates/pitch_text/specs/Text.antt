@@ -9,32 +9,22 @@ pub use Rattle.lists.specs.Put.{Put}
 use Rattle.pitch_table.specs.declared.Row.{Row}
 use Rattle.pitch_text.specs.Decimal.{digits, decimal}
 
--- ---- the longest of each
+-- how many bytes they have at most: the digits of an unsigned number of 32 bits; a field, which is a space and a signed number; a row's letter, seven fields and
+-- the end of the line; a frame's number, a space and its row; `refused`, a space, a number and the end of the line
+abbrev pub digits-bytes : ℕ
+digits-bytes = 10
 
--- the digits of a number of 32 bits
-abbrev pub word-digits : ℕ
-word-digits = 10
+abbrev pub field-bytes : ℕ
+field-bytes = 2 + digits-bytes
 
--- a number after a space: sign and digits
-abbrev pub longest-field : ℕ
-longest-field = 2 + word-digits
+abbrev pub row-text-bytes : ℕ
+row-text-bytes = 2 + field-bytes * 7
 
--- a row's numbers after its verdict
-abbrev pub row-values : ℕ
-row-values = 7
+abbrev pub line-bytes : ℕ
+line-bytes = digits-bytes + 1 + row-text-bytes
 
--- a row as a line: letter, fields and the line's end; and a frame's line: its number and a space before that
-abbrev pub longest-row-text : ℕ
-longest-row-text = 1 + longest-field * row-values + 1
-
-abbrev pub longest-line : ℕ
-longest-line = word-digits + 1 + longest-row-text
-
--- `refused`, a space, the number and the line's end
-abbrev pub longest-refused : ℕ
-longest-refused = 8 + word-digits + 1
-
--- ---- the text
+abbrev pub refused-bytes : ℕ
+refused-bytes = 9 + digits-bytes
 
 -- each number after a space
 unfoldable pub fields : List ℤ → List ℕ

@@ -4,16 +4,16 @@ ghost use Prim.Native.Nat.{_+_, _*_, _≤_};
 ghost use lib.ListN.{length, take};
 ghost use Rattle.pitch_table.specs.Row.{row-size, most-frames, row-at};
 ghost use Rattle.pitch_text.specs.Decimal.{digits, decimal};
-ghost use Rattle.pitch_text.specs.Text.{longest-field, longest-row-text, longest-line, longest-refused, fields, letter-of, values-of, row-text, line-text, lines-text, refused-text, Put};
+ghost use Rattle.pitch_text.specs.Text.{field-bytes, row-text-bytes, line-bytes, refused-bytes, fields, letter-of, values-of, row-text, line-text, lines-text, refused-text, Put};
 use pitch_table::Row;
 use pitch_table::get_row;
 use silk_macros::abs_u32;
 
-// The digits of a number of 32 bits.
-pub const WORD_DIGITS: usize = 10;
+// The bytes of an unsigned number of 32 bits at most.
+pub const DIGITS_BYTES: usize = 10;
 
-// The longest row as a line: letter, seven numbers each after a space, and the line's end.
-pub const LONGEST_ROW_TEXT: usize = 1 + (2 + WORD_DIGITS) * 7 + 1;
+// The bytes of a field at most: a space and a signed number.
+pub const FIELD_BYTES: usize = 2 + DIGITS_BYTES;
 
 // The bytes of a row as a line at most: a letter, seven fields and the end of the line.
 pub const ROW_TEXT_BYTES: usize = 2 + FIELD_BYTES * 7;
@@ -51,8 +51,8 @@ pub fn put_number(out: &mut [u8], at: usize, z: i32) -> usize
 
 // The first n of the values, each after a space.
 pub fn put_fields(out: &mut [u8], at: usize, values: &[i32], n: usize) -> usize
-    requires { ⌜ (n ≤ length (now values)) × (at + longest-field * n ≤ length (now out)) ⌝ }
-    ensures { λ r. ⌜ Put (now (out .entry)) at (fields (take n (now (values .entry)))) r (now (out .exit)) × (r ≤ at + longest-field * n) ⌝ }
+    requires { ⌜ (n ≤ length (now values)) × (at + field-bytes * n ≤ length (now out)) ⌝ }
+    ensures { λ r. ⌜ Put (now (out .entry)) at (fields (take n (now (values .entry)))) r (now (out .exit)) × (r ≤ at + field-bytes * n) ⌝ }
 {
     let mut p = at;
     let mut k = 0;
@@ -93,8 +93,8 @@ fn row_values(r: Row) -> [i32; 7]
 
 // A row as a line, with the lags of nb subframes.
 pub fn put_row_text(out: &mut [u8], at: usize, nb: usize, r: Row) -> usize
-    requires { ⌜ (nb ≤ 4) × (at + longest-row-text ≤ length (now out)) ⌝ }
-    ensures { λ end. ⌜ Put (now (out .entry)) at (row-text nb r) end (now (out .exit)) × (end ≤ at + longest-row-text) ⌝ }
+    requires { ⌜ (nb ≤ 4) × (at + row-text-bytes ≤ length (now out)) ⌝ }
+    ensures { λ end. ⌜ Put (now (out .entry)) at (row-text nb r) end (now (out .exit)) × (end ≤ at + row-text-bytes) ⌝ }
 {
     let values = row_values(r);
     out[at] = letter(r.verdict);
@@ -105,8 +105,8 @@ pub fn put_row_text(out: &mut [u8], at: usize, nb: usize, r: Row) -> usize
 
 // A frame's line: its number, then its row.
 pub fn put_line(out: &mut [u8], at: usize, i: u32, nb: usize, r: Row) -> usize
-    requires { ⌜ (nb ≤ 4) × (at + longest-line ≤ length (now out)) ⌝ }
-    ensures { λ end. ⌜ Put (now (out .entry)) at (line-text i nb r) end (now (out .exit)) × (end ≤ at + 97) ⌝ }
+    requires { ⌜ (nb ≤ 4) × (at + line-bytes ≤ length (now out)) ⌝ }
+    ensures { λ end. ⌜ Put (now (out .entry)) at (line-text i nb r) end (now (out .exit)) × (end ≤ at + line-bytes) ⌝ }
 {
     let p = put_digits(out, at, i);
     out[p] = b' ';
@@ -115,8 +115,8 @@ pub fn put_line(out: &mut [u8], at: usize, i: u32, nb: usize, r: Row) -> usize
 
 // The lines of the first n rows of the table.
 pub fn put_lines(out: &mut [u8], at: usize, nb: usize, table: &[i32], n: usize) -> usize
-    requires { ⌜ (nb ≤ 4) × (n ≤ most-frames) × (n * row-size ≤ length (now table)) × (at + longest-line * n ≤ length (now out)) ⌝ }
-    ensures { λ end. ⌜ Put (now (out .entry)) at (lines-text nb (row-at (now (table .entry))) n) end (now (out .exit)) × (end ≤ at + longest-line * n) ⌝ }
+    requires { ⌜ (nb ≤ 4) × (n ≤ most-frames) × (n * row-size ≤ length (now table)) × (at + line-bytes * n ≤ length (now out)) ⌝ }
+    ensures { λ end. ⌜ Put (now (out .entry)) at (lines-text nb (row-at (now (table .entry))) n) end (now (out .exit)) × (end ≤ at + line-bytes * n) ⌝ }
 {
     let mut p = at;
     let mut i = 0;
@@ -130,8 +130,8 @@ pub fn put_lines(out: &mut [u8], at: usize, nb: usize, table: &[i32], n: usize) 
 
 // `refused` and a number.
 pub fn put_refused(out: &mut [u8], at: usize, n: u32) -> usize
-    requires { ⌜ at + longest-refused ≤ length (now out) ⌝ }
-    ensures { λ end. ⌜ Put (now (out .entry)) at (refused-text n) end (now (out .exit)) × (end ≤ at + longest-refused) ⌝ }
+    requires { ⌜ at + refused-bytes ≤ length (now out) ⌝ }
+    ensures { λ end. ⌜ Put (now (out .entry)) at (refused-text n) end (now (out .exit)) × (end ≤ at + refused-bytes) ⌝ }
 {
     out[at] = b'r';
     out[at + 1] = b'e';

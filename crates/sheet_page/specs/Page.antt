@@ -9,13 +9,13 @@ use lib.ListN.{length, getD}
 use Rattle.best.specs.Best.{every}
 use Rattle.lists.specs.Fill.{tabulate}
 use Rattle.pitch_settings.specs.declared.Settings.{Settings}
-use Rattle.pitch_settings.specs.Settings.{settings-no}
+use Rattle.pitch_settings.specs.Settings.{held-no}
 use Rattle.pitch_table.specs.declared.Row.{Row}
-use Rattle.pitch_table.specs.Row.{most-frames, numbers}
+use Rattle.pitch_table.specs.Row.{most-frames, numbers, unpitched-row}
 use Rattle.sheet_bytes.specs.Bytes.{number-at, signed-at}
 use Rattle.sheet_rows.specs.declared.RowRead.{RowRead}
 use Rattle.sheet_rows.specs.declared.RowRead.the-variants.{Held, Bad}
-use Rattle.sheet_rows.specs.Rows.{quiet-row, row-of}
+use Rattle.sheet_rows.specs.Rows.{row-of}
 use Rattle.sheet_sections.specs.declared.Section.the-variants.{Pairs, Correlations}
 use Rattle.sheet_sections.specs.Sheet.{settings-count, count-bytes, setting-bytes, index-bytes, entry-bytes, setting-place, frames-at, verdicts-at, pairs-count-at, pairs-at, correlations-count-at, correlations-at, sheet-length}
 use Rattle.sheet_page.specs.declared.Head.{Head}
@@ -74,9 +74,9 @@ readable Bad = false
 
 -- ---- when it is a sheet
 
--- the settings' section and the frames' count are there; as many settings as there are, accepted, and no more frames than a sheet may have
+-- the settings' section and the frames' count are there; as many settings as there are, which a sheet can hold, and no more frames than a sheet may have
 unfoldable pub head-good : List ℕ → Bool
-head-good p = leb verdicts-at (length p) && (eqb (number-at count-bytes p 0) settings-count && (eqb (settings-no (sheet-settings p)) 0 && leb (frames-in p) most-frames))
+head-good p = leb verdicts-at (length p) && (eqb (number-at count-bytes p 0) settings-count && (eqb (held-no (sheet-settings p)) 0 && leb (frames-in p) most-frames))
 
 -- no byte is missing and none follows; the pairs and the correlations number the voiced verdicts
 unfoldable pub sizes-good : List ℕ → Bool
@@ -100,7 +100,7 @@ page-no p = cond (well-formed p) 0 9
 -- the row that was read (the second clause is for totality: no sheet has such a row)
 unfoldable pub row-found : RowRead → Row
 row-found (Held r) = r
-row-found Bad = quiet-row (pos 1)
+row-found Bad = unpitched-row (pos 1)
 
 unfoldable pub rows-in : List ℕ → List Row
 rows-in p = tabulate (λ i. row-found (row-in p i)) (frames-in p)

@@ -17,7 +17,7 @@ use Rattle.best.specs.BestLaws.{every-true, every-false}
 use Rattle.lists.specs.Fill.{tabulate}
 use Rattle.lists.specs.FillLaws.{length-tabulate}
 use Rattle.zint.specs.BoolLaws.{and-left, and-right}
-use Rattle.pitch_settings.specs.Settings.{settings-no}
+use Rattle.pitch_settings.specs.Settings.{held-no}
 use Rattle.pitch_table.specs.declared.Row.{Row}
 use Rattle.pitch_table.specs.Row.{row-size, most-frames, numbers}
 use Rattle.sheet_bytes.specs.Bytes.{number-at, signed-at}
@@ -36,26 +36,26 @@ module _ (p : List ℕ) where
   pub record GoodHead : Type 0 where
     pub long : verdicts-at ≤ length p
     pub count : number-at count-bytes p 0 ≡ settings-count
-    pub settings : settings-no (sheet-settings p) ≡ 0
+    pub settings : held-no (sheet-settings p) ≡ 0
     pub few : frames-in p ≤ most-frames
 
   pub head-means : head-good p ≡ true → GoodHead
   unfolding head-good
   head-means h =
-      let c = eqb (settings-no (sheet-settings p)) 0 && leb (frames-in p) most-frames in
+      let c = eqb (held-no (sheet-settings p)) 0 && leb (frames-in p) most-frames in
       let b = eqb (number-at count-bytes p 0) settings-count && c in
       let k = and-right (leb verdicts-at (length p)) b h in
       let l = and-right (eqb (number-at count-bytes p 0) settings-count) c k in
       record {
         long = leb-true verdicts-at (length p) (and-left (leb verdicts-at (length p)) b h);
         count = eqb-true (number-at count-bytes p 0) settings-count (and-left (eqb (number-at count-bytes p 0) settings-count) c k);
-        settings = eqb-true (settings-no (sheet-settings p)) 0 (and-left (eqb (settings-no (sheet-settings p)) 0) (leb (frames-in p) most-frames) l);
-        few = leb-true (frames-in p) most-frames (and-right (eqb (settings-no (sheet-settings p)) 0) (leb (frames-in p) most-frames) l);
+        settings = eqb-true (held-no (sheet-settings p)) 0 (and-left (eqb (held-no (sheet-settings p)) 0) (leb (frames-in p) most-frames) l);
+        few = leb-true (frames-in p) most-frames (and-right (eqb (held-no (sheet-settings p)) 0) (leb (frames-in p) most-frames) l);
       }
 
   pub head-yes : GoodHead → head-good p ≡ true
   unfolding head-good
-  head-yes g = rw (le-leb verdicts-at (length p) (g .long), eq-eqb (number-at count-bytes p 0) settings-count (g .count), eq-eqb (settings-no (sheet-settings p)) 0 (g .settings)) (le-leb (frames-in p) most-frames (g .few))
+  head-yes g = rw (le-leb verdicts-at (length p) (g .long), eq-eqb (number-at count-bytes p 0) settings-count (g .count), eq-eqb (held-no (sheet-settings p)) 0 (g .settings)) (le-leb (frames-in p) most-frames (g .few))
 
   pub record GoodSizes : Type 0 where
     pub whole : length p ≡ sheet-length (frames-in p) (voiced-in p)

@@ -8,7 +8,7 @@ ghost use Rattle.sheet_page.specs.Page.{sheet-settings, frames-in, voice
 ghost use Rattle.pitch_table.specs.Row.{row-size};
 ghost use Rattle.sheet_sections.specs.Sheet.{verdicts-at};
 use pitch_settings::Settings;
-use pitch_settings::settings_no;
+use pitch_settings::held_no;
 use pitch_table::MOST_FRAMES;
 use pitch_table::put_row;
 use sheet_bytes::i32_at;
@@ -52,7 +52,7 @@ fn settings_at(page: &[u8]) -> Settings
     }
 }
 
-// As many settings as a sheet has, accepted, and a frame count that a sheet may have.
+// As many settings as a sheet has, which it can hold, and a frame count that a sheet may have.
 fn head_good(page: &[u8]) -> bool
     ensures { λ r. ⌜ r ≡ head-good (now (page .entry)) ⌝ }
 {
@@ -63,7 +63,7 @@ fn head_good(page: &[u8]) -> bool
         return false;
     }
     let s = settings_at(page);
-    if settings_no(s) != 0 {
+    if held_no(s) != 0 {
         return false;
     }
     u32_at(page, FRAMES_AT) as usize <= MOST_FRAMES

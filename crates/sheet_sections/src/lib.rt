@@ -4,11 +4,10 @@ ghost use mathlib.Core.Bool.{true};
 ghost use mathlib.Core.Path.{_≡_};
 ghost use Prim.Native.Nat.{ℕ, _+_, _*_, _<_, _≤_};
 ghost use lib.ListN.{length};
-ghost use Rattle.pitch_settings.specs.Settings.{settings-no};
+ghost use Rattle.pitch_settings.specs.Settings.{held-no};
 ghost use Rattle.pitch_table.specs.Row.{row-size, most-frames, row-at};
 ghost use Rattle.sheet_bytes.specs.Bytes.{signed};
-ghost use Rattle.sheet_rows.specs.Rows.{row-holds};
-ghost use Rattle.sheet_rows.specs.Rows.{FieldsFit};
+ghost use Rattle.sheet_rows.specs.Rows.{FieldsFit, row-holds};
 ghost use Rattle.lists.specs.Put.{Put};
 ghost use Rattle.sheet_sections.specs.Sheet.{setting-bytes, frames-at, sheet-length, setting-numbers, row-bytes, section-entries, section, setting-entries, concat, rows-of, sheet};
 use pitch_settings::Settings;
@@ -108,7 +107,7 @@ pub fn sheet_length(frames: usize, voiced: usize) -> usize
 
 // The settings as numbers, in their order on the page.
 pub fn setting_numbers(s: Settings) -> [i32; SETTINGS_COUNT]
-    requires { ⌜ settings-no s ≡ 0 ⌝ }
+    requires { ⌜ held-no s ≡ 0 ⌝ }
     ensures { λ r. ⌜ r ≡ setting-numbers s ⌝ }
 {
     let thres1 = s.thres1;
@@ -137,7 +136,7 @@ fn put_numbers(page: &mut [u8], at: usize, numbers: &[i32]) -> usize
 
 // The settings' section at the front of the page; the place after it.
 fn put_settings(page: &mut [u8], s: Settings) -> usize
-    requires { ⌜ (settings-no s ≡ 0) × (frames-at ≤ length (now page)) ⌝ }
+    requires { ⌜ (held-no s ≡ 0) × (frames-at ≤ length (now page)) ⌝ }
     ensures { λ end. ⌜ Put (now (page .entry)) 0 (section (setting-entries s)) end (now (page .exit)) ⌝ }
 {
     put_u32(page, 0, SETTINGS_COUNT as u32);
@@ -147,7 +146,7 @@ fn put_settings(page: &mut [u8], s: Settings) -> usize
 
 // The row's bytes in a section, from `at` on; the place after them.
 fn put_row_bytes(page: &mut [u8], at: usize, which: Section, r: Row) -> usize
-    requires { ⌜ Small r × (at + length (row-bytes which r) ≤ length (now page)) ⌝ }
+    requires { ⌜ FieldsFit r × (at + length (row-bytes which r) ≤ length (now page)) ⌝ }
     ensures { λ end. ⌜ Put (now (page .entry)) at (row-bytes which r) end (now (page .exit)) ⌝ }
 {
     let verdict = r.verdict;
@@ -184,7 +183,7 @@ fn put_section(
     frames: usize,
 ) -> usize
     requires { ⌜ (frames * row-size ≤ length (now table)) × (frames ≤ most-frames)
-        × ((i : ℕ) → i < frames → Small (row-at (now table) i))
+        × ((i : ℕ) → i < frames → FieldsFit (row-at (now table) i))
         × (count ≡ length (section-entries which (rows-of (now table) frames)))
         × (at + length (section (section-entries which (rows-of (now table) frames))) ≤ length (now page)) ⌝ }
     ensures { λ end. ⌜ Put (now (page .entry)) at (section (section-entries which (rows-of (now (table .entry)) frames))) end (now (page .exit)) ⌝ }
@@ -200,7 +199,7 @@ fn put_section(
 
 // A whole sheet at the front of the page.
 pub fn put_sheet(page: &mut [u8], s: Settings, table: &[i32], frames: usize, voiced: usize) -> usize
-    requires { ⌜ (settings-no s ≡ 0) × (frames * row-size ≤ length (now table)) × (frames ≤ most-frames)
+    requires { ⌜ (held-no s ≡ 0) × (frames * row-size ≤ length (now table)) × (frames ≤ most-frames)
         × ((i : ℕ) → i < frames → row-holds s (row-at (now table) i) ≡ true)
         × (voiced ≡ length (section-entries Section.Pairs (rows-of (now table) frames)))
         × (length (sheet s (rows-of (now table) frames)) ≤ length (now page)) ⌝ }

@@ -12,7 +12,7 @@ use Rattle.pitch_text.specs.Text.{refused-text}
 use Rattle.pitch_text.specs.TextLaws.{lines-same}
 use Rattle.sheet_bytes.specs.Bytes.{Bytes}
 use Rattle.sheet_sections.specs.Sheet.{sheet}
-use Rattle.sheet_page.specs.Page.{sheet-settings, frames-in, row-in, held, well-formed, rows-in}
+use Rattle.sheet_page.specs.Page.{sheet-settings, frames-in, row-in, row-found, well-formed, rows-in}
 use Rattle.pitch_sheet.specs.Holds.{no-row, Holds}
 use Rattle.pitch_sheet.specs.SheetReadLaws.{sheet-well-formed, settings-read, sheet-frames, sheet-rows}
 use Rattle.pitch_sheet.specs.PageWrittenLaws.{page-holds, page-sheet}
@@ -25,7 +25,7 @@ of-sheet : (s : Settings) (rs : List Row) → Holds s rs → sheet-text (sheet s
 unfolding sheet-text sheet-report rows-in
 of-sheet s rs h =
     let p = sheet s rs in
-    let f : ℕ → Row = λ i. held (row-in p i) in
+    let f : ℕ → Row = λ i. row-found (row-in p i) in
     let n = sheet-frames s rs h in
     let row : (i : ℕ) → i < length rs → f i ≡ getD rs i no-row =
     λ i l. sym (getD-tabulate f (frames-in p) i no-row (omega (arith, n))) ∙ ap (λ (x : List Row). getD x i no-row) (sheet-rows s rs h) in

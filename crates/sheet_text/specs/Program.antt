@@ -2,24 +2,28 @@
 -- `track` prints them, or `refused` and the number; and what its call leaves in each lent place. Definitions only.
 use mathlib.Core.Bool.{cond}
 use mathlib.Core.List.{List, [], _∷_, _++_}
-use Prim.Native.Nat.{ℕ, _*_}
+use Prim.Native.Nat.{ℕ, _+_, _*_}
 use lib.IntN.{ℤ, pos}
 use lib.ListN.{length, drop}
 use Rattle.lists.specs.Fill.{overwritten}
 use Rattle.pitch_settings.specs.declared.Settings.{Settings}
 use Rattle.pitch_table.specs.declared.Row.{Row}
 use Rattle.pitch_text.specs.Decimal.{digits}
-use Rattle.pitch_text.specs.Text.{fields, lines-text, refused-text}
-use Rattle.sheet_page.specs.Page.{sheet-settings, frames-in, row-in, held, well-formed, rows-in, numbers-of}
-use Rattle.pitch_table.specs.Row.{row-size}
+use Rattle.pitch_text.specs.Text.{digits-bytes, field-bytes, line-bytes, fields, lines-text, refused-text}
+use Rattle.sheet_sections.specs.Sheet.{settings-count, setting-numbers}
+use Rattle.sheet_page.specs.Page.{sheet-settings, frames-in, row-in, row-found, well-formed, rows-in, numbers-of}
+use Rattle.pitch_table.specs.Row.{row-size, most-frames}
 
--- the numbers of the first line after the rate
-unfoldable pub head-values : Settings → ℕ → List ℤ
-head-values s frames = pos (s .nb) ∷ pos (s .complexity) ∷ s .thres1 ∷ s .thres2 ∷ pos frames ∷ []
+-- how many bytes the first line has at most: the rate, a field for each other setting and one for the frame count, and the end of the line; and the text of a whole sheet
+abbrev pub sheet-head-bytes : ℕ
+sheet-head-bytes = digits-bytes + field-bytes * settings-count + 1
 
--- the first line: the rate, then each other number after a space
+abbrev pub sheet-text-bytes : ℕ
+sheet-text-bytes = sheet-head-bytes + line-bytes * most-frames
+
+-- the first line: the rate, each other setting after a space, and the frame count after a space
 unfoldable pub sheet-head : Settings → ℕ → List ℕ
-sheet-head s frames = digits (s .rate) ++ (fields (head-values s frames) ++ (10 ∷ []))
+sheet-head s frames = digits (s .rate) ++ (fields (drop 1 (setting-numbers s)) ++ (fields (pos frames ∷ []) ++ (10 ∷ [])))
 
 -- the first line, then a line for each frame
 unfoldable pub sheet-report : Settings → (ℕ → Row) → ℕ → List ℕ
@@ -27,7 +31,7 @@ sheet-report s rows frames = sheet-head s frames ++ lines-text (s .nb) rows fram
 
 -- what the program prints for the input p: the settings and rows of a sheet; 9 for everything that is no sheet
 unfoldable pub sheet-text : List ℕ → List ℕ
-sheet-text p = cond (well-formed p) (sheet-report (sheet-settings p) (λ i. held (row-in p i)) (frames-in p)) (refused-text 9)
+sheet-text p = cond (well-formed p) (sheet-report (sheet-settings p) (λ i. row-found (row-in p i)) (frames-in p)) (refused-text 9)
 
 -- ---- the whole outcome of a call
 

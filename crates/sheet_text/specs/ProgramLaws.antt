@@ -2,41 +2,40 @@
 use mathlib.Core.Path.{_≡_, refl, ap, _∙_}
 use mathlib.Core.Bool.{Bool, true, false}
 use mathlib.Core.List.{List, [], _∷_, _++_, append-nil}
-use Prim.Native.Nat.{ℕ, zero, suc, _+_, _*_, _≤_, _<_}
+use Prim.Native.Nat.{ℕ, _*_, _≤_, _<_}
 use native.Mathlib.Omega.{arith}
 use borrow.Author.Tests.{ltb-true, ltb-false}
 use lib.Dec.{ltb}
-use lib.IntN.{ℤ, pos}
-use lib.ListN.{length, getD, drop, length-append}
-use lib.Seq.{getD-append-add}
+use lib.IntN.{ℤ}
+use lib.ListN.{length, drop, length-append}
 use Rattle.lists.specs.FillLaws.{length-tabulate, getD-tabulate}
 use Rattle.lists.specs.Fill.{overwritten}
 use Rattle.pitch_settings.specs.declared.Settings.{Settings}
-use Rattle.pitch_settings.specs.Settings.{settings-no}
+use Rattle.pitch_settings.specs.Settings.{held-no}
 use Rattle.pitch_table.specs.declared.Row.{Row}
-use Rattle.pitch_table.specs.Row.{row-size, numbers, row-at}
+use Rattle.pitch_table.specs.Row.{row-size, most-frames, row-at}
 use Rattle.pitch_text.specs.Text.{refused-text}
 use Rattle.pitch_text.specs.TextLaws.{lines-same}
 use Rattle.sheet_sections.specs.Sheet.{sheet-length}
-use Rattle.sheet_page.specs.Page.{sheet-settings, frames-in, row-in, held, well-formed, page-no, rows-in, numbers-of}
+use Rattle.sheet_page.specs.Page.{sheet-settings, frames-in, row-in, row-found, well-formed, page-no, rows-in, numbers-of}
 use Rattle.sheet_page.specs.PageLaws.{good, voiced-in-le}
 use Rattle.pitch_sheet.specs.declared.Got.{Got}
 use Rattle.pitch_sheet.specs.declared.Got.the-variants.{Read, Refused as NotRead}
 use Rattle.pitch_sheet.specs.Calls.{got, read-call, ReadOutcome}
 use Rattle.pitch_sheet.specs.CallsLaws.{sheet-page, read-malformed, read-done}
 use Rattle.pitch_sheet.specs.Holds.{no-row}
+use Rattle.pitch_sheet.specs.RoundTripLaws.{row-back}
 use Rattle.sheet_text.specs.Program.{sheet-head, sheet-report, sheet-text, sheet-printed, sheet-table-after, sheet-text-call}
 
 -- ---- a page that is longer than the longest sheet
-pub sheet-within : (p : List ℕ) → well-formed p ≡ true → length p ≤ 32804
-unfolding sheet-length
+pub sheet-within : (p : List ℕ) → well-formed p ≡ true → length p ≤ sheet-length most-frames most-frames
 sheet-within p h = let g = good p h in omega (arith, g .sizes .whole, g .head .few, voiced-in-le p)
 
 pub text-refused : (p : List ℕ) → well-formed p ≡ false → refused-text 9 ≡ sheet-text p
 unfolding sheet-text
 text-refused p e = rw e
 
-too-long : (p : List ℕ) → 32804 < length p → well-formed p ≡ false
+too-long : (p : List ℕ) → sheet-length most-frames most-frames < length p → well-formed p ≡ false
 too-long p h = by (well-formed p) refl
   where
     by : (b : Bool) → well-formed p ≡ b → b ≡ false
@@ -44,7 +43,7 @@ too-long p h = by (well-formed p) refl
     by false e = refl
 
 -- bytes follow those of the longest sheet
-pub no-sheet : (p rest : List ℕ) → 32804 ≤ length p → ltb 0 (length rest) ≡ true → well-formed (p ++ rest) ≡ false
+pub no-sheet : (p rest : List ℕ) → sheet-length most-frames most-frames ≤ length p → ltb 0 (length rest) ≡ true → well-formed (p ++ rest) ≡ false
 no-sheet p rest h e = too-long (p ++ rest) (omega (arith, length-append p rest, ltb-true 0 (length rest) e))
 
 -- ---- the whole outcome: the text over the front of `out`, and the table
@@ -61,32 +60,6 @@ pub none-more : (p rest : List ℕ) → ltb 0 (length rest) ≡ false → p ++ r
 none-more p [] e = append-nil p
 none-more p (x ∷ rest) e = absurd (omega (arith, ltb-false 0 (length (x ∷ rest)) e))
 
--- ---- the rows of a table that begins with their numbers
-row-first : (r : Row) (t : List ℤ) → row-at (numbers r ++ t) 0 ≡ r
-unfolding row-at
-row-first r t = refl
-
-row-later : (r : Row) (t : List ℤ) (i : ℕ) → row-at (numbers r ++ t) (suc i) ≡ row-at t i
-unfolding row-at
-row-later r t i =
-    let at : (j k : ℕ) → j ≡ 8 + k → getD (numbers r ++ t) j (pos 0) ≡ getD t k (pos 0) =
-    λ j k e. ap (λ (m : ℕ). getD (numbers r ++ t) m (pos 0)) e ∙ getD-append-add (numbers r) t k (pos 0) in
-    let x0 = at (suc i * row-size) (i * row-size) (omega arith) in
-    let x1 = at (suc i * row-size + 1) (i * row-size + 1) (omega arith) in
-    let x2 = at (suc i * row-size + 2) (i * row-size + 2) (omega arith) in
-    let x3 = at (suc i * row-size + 3) (i * row-size + 3) (omega arith) in
-    let x4 = at (suc i * row-size + 4) (i * row-size + 4) (omega arith) in
-    let x5 = at (suc i * row-size + 5) (i * row-size + 5) (omega arith) in
-    let x6 = at (suc i * row-size + 6) (i * row-size + 6) (omega arith) in
-    let x7 = at (suc i * row-size + 7) (i * row-size + 7) (omega arith) in
-    λ u. record { verdict = x0 u; index = x1 u; contour = x2 u; correlation = x3 u; lag0 = x4 u; lag1 = x5 u; lag2 = x6 u; lag3 = x7 u }
-
-row-back : (rs : List Row) (t : List ℤ) (i : ℕ) → i < length rs → row-at (numbers-of rs ++ t) i ≡ getD rs i no-row
-unfolding numbers-of
-row-back [] t i h = absurd (omega arith)
-row-back (r ∷ rs) t zero h = row-first r _
-row-back (r ∷ rs) t (suc i) h = row-later r _ i ∙ row-back rs t i (omega arith)
-
 -- ---- what a reading finds, in a table that has room for every sheet
 
 -- the page is a sheet, and these are its settings, its frame count and its rows, in a table that was t before
@@ -94,7 +67,7 @@ pub record Found (p : List ℕ) (t : List ℤ) (s : Settings) (frames : ℕ) (af
   pub sound : well-formed p ≡ true
   pub settings : s ≡ sheet-settings p
   pub count : frames ≡ frames-in p
-  pub rows : (i : ℕ) → i < frames → row-at after i ≡ held (row-in p i)
+  pub rows : (i : ℕ) → i < frames → row-at after i ≡ row-found (row-in p i)
   pub left : after ≡ sheet-table-after p t
 
 -- the page is no sheet, and the number says so; the table is as it was
@@ -103,7 +76,7 @@ pub record Refused (p : List ℕ) (t : List ℤ) (number : ℕ) (after : List �
   pub nine : number ≡ 9
   pub left : after ≡ sheet-table-after p t
 
-module _ (p : List ℕ) (t : List ℤ) (room : 32768 ≤ length t) where
+module _ (p : List ℕ) (t : List ℤ) (room : most-frames * row-size ≤ length t) where
   -- 7 is never said
   sound-read : well-formed p ≡ true → read-call p t ≡ got (Read (sheet-settings p) (frames-in p)) (numbers-of (rows-in p) ++ drop (frames-in p * row-size) t)
   sound-read e = read-done p t (sheet-page p e) (omega (arith, good p e .head .few))
@@ -115,10 +88,10 @@ module _ (p : List ℕ) (t : List ℤ) (room : 32768 ≤ length t) where
       let m : page-no p ≡ 0 → ⊥ = λ z. omega arith in
       read-malformed p t m ∙ ap (λ (k : ℕ). got (NotRead k) t) n
 
-  row-read : (i : ℕ) → i < frames-in p → row-at (numbers-of (rows-in p) ++ drop (frames-in p * row-size) t) i ≡ held (row-in p i)
+  row-read : (i : ℕ) → i < frames-in p → row-at (numbers-of (rows-in p) ++ drop (frames-in p * row-size) t) i ≡ row-found (row-in p i)
   unfolding rows-in
   row-read i h =
-      let f : ℕ → Row = λ k. held (row-in p k) in
+      let f : ℕ → Row = λ k. row-found (row-in p k) in
       row-back (rows-in p) (drop (frames-in p * row-size) t) i (omega (arith, length-tabulate f (frames-in p))) ∙ getD-tabulate f (frames-in p) i no-row h
 
   table-read : well-formed p ≡ true → numbers-of (rows-in p) ++ drop (frames-in p * row-size) t ≡ sheet-table-after p t
@@ -155,15 +128,15 @@ module _ (p : List ℕ) (t : List ℤ) (room : 32768 ≤ length t) where
 
 -- ---- the text of what was read
 module _ {p : List ℕ} {t : List ℤ} {s : Settings} {frames : ℕ} {after : List ℤ} (f : Found p t s frames after) where
-  pub settings-known : settings-no s ≡ 0
-  settings-known = ap settings-no (f .settings) ∙ good p (f .sound) .head .settings
+  pub settings-known : held-no s ≡ 0
+  settings-known = ap held-no (f .settings) ∙ good p (f .sound) .head .settings
 
-  pub few-frames : frames ≤ 4096
+  pub few-frames : frames ≤ most-frames
   few-frames = omega (arith, f .count, good p (f .sound) .head .few)
 
   pub text-report : sheet-report s (row-at after) frames ≡ sheet-text p
   unfolding sheet-text sheet-report
   text-report =
       rw (f .sound)
-      (ap (λ (l : List ℕ). sheet-head s frames ++ l) (lines-same (s .nb) (row-at after) (λ i. held (row-in p i)) frames (f .rows))
-      ∙ (λ u. sheet-report (f .settings u) (λ i. held (row-in p i)) (f .count u)))
+      (ap (λ (l : List ℕ). sheet-head s frames ++ l) (lines-same (s .nb) (row-at after) (λ i. row-found (row-in p i)) frames (f .rows))
+      ∙ (λ u. sheet-report (f .settings u) (λ i. row-found (row-in p i)) (f .count u)))

@@ -5,50 +5,49 @@ ghost use mathlib.Core.List.{List, _++_};
 ghost use Prim.Native.Nat.{ℕ, _*_, _≤_};
 ghost use lib.Dec.{ltb};
 ghost use lib.ListN.{length};
-ghost use Rattle.pitch_settings.specs.Settings.{settings-no};
-ghost use Rattle.pitch_table.specs.Row.{row-size, row-at};
+ghost use Rattle.pitch_settings.specs.Settings.{held-no};
+ghost use Rattle.pitch_table.specs.Row.{row-size, most-frames, row-at};
 ghost use Rattle.pitch_text.specs.Text.{Put};
-ghost use Rattle.sheet_text.specs.Program.{head-values, sheet-head, sheet-report, sheet-printed, sheet-text-call};
+ghost use Rattle.sheet_sections.specs.Sheet.{sheet-length};
+ghost use Rattle.sheet_text.specs.Program.{sheet-head-bytes, sheet-text-bytes, sheet-head, sheet-report, sheet-printed, sheet-text-call};
 use pitch_settings::Settings;
 use pitch_sheet::Got;
 use pitch_sheet::read_sheet;
+use pitch_table::MOST_FRAMES;
+use pitch_text::DIGITS_BYTES;
+use pitch_text::FIELD_BYTES;
+use pitch_text::LINE_BYTES;
 use pitch_text::put_digits;
 use pitch_text::put_fields;
 use pitch_text::put_lines;
 use pitch_text::put_refused;
+use sheet_sections::SETTINGS_COUNT;
+use sheet_sections::setting_numbers;
 
-// The numbers of the first line after the rate.
-fn head_values(s: Settings, frames: usize) -> [i32; 5]
-    requires { ⌜ (settings-no s ≡ 0) × (frames ≤ 4096) ⌝ }
-    ensures { λ r. ⌜ r ≡ head-values s frames ⌝ }
-{
-    let thres1 = s.thres1;
-    let thres2 = s.thres2;
-    [
-        s.nb as i32,
-        s.complexity as i32,
-        thres1,
-        thres2,
-        frames as i32,
-    ]
-}
+// The bytes of a sheet's text at most: the first line, and a line for each frame.
+pub const SHEET_TEXT_BYTES: usize = DIGITS_BYTES
+    + FIELD_BYTES * SETTINGS_COUNT
+    + 1
+    + LINE_BYTES * MOST_FRAMES;
 
 // Settings and frame count.
 fn put_head(out: &mut [u8], s: Settings, frames: usize) -> usize
-    requires { ⌜ (settings-no s ≡ 0) × (frames ≤ 4096) × (71 ≤ length (now out)) ⌝ }
-    ensures { λ r. ⌜ Put (now (out .entry)) 0 (sheet-head s frames) r (now (out .exit)) × (r ≤ 71) ⌝ }
+    requires { ⌜ (held-no s ≡ 0) × (frames ≤ most-frames) × (sheet-head-bytes ≤ length (now out)) ⌝ }
+    ensures { λ r. ⌜ Put (now (out .entry)) 0 (sheet-head s frames) r (now (out .exit)) × (r ≤ sheet-head-bytes) ⌝ }
 {
-    let values = head_values(s, frames);
+    let numbers = setting_numbers(s);
+    let count = [frames as i32];
     let p = put_digits(out, 0, s.rate as u32);
-    let q = put_fields(out, p, &values, 5);
-    out[q] = b'\n';
-    q + 1
+    let p = put_fields(out, p, &numbers[1..], SETTINGS_COUNT - 1);
+    let p = put_fields(out, p, &count, 1);
+    out[p] = b'\n';
+    p + 1
 }
 
 // The text for the first rows of the table.
 fn put_report(out: &mut [u8], s: Settings, table: &[i32], frames: usize) -> usize
-    requires { ⌜ (settings-no s ≡ 0) × (frames ≤ 4096) × (frames * row-size ≤ length (now table)) × (397383 ≤ length (now out)) ⌝ }
-    ensures { λ r. ⌜ Put (now (out .entry)) 0 (sheet-report s (row-at (now (table .entry))) frames) r (now (out .exit)) × (r ≤ 397383) ⌝ }
+    requires { ⌜ (held-no s ≡ 0) × (frames ≤ most-frames) × (frames * row-size ≤ length (now table)) × (sheet-text-bytes ≤ length (now out)) ⌝ }
+    ensures { λ r. ⌜ Put (now (out .entry)) 0 (sheet-report s (row-at (now (table .entry))) frames) r (now (out .exit)) × (r ≤ sheet-text-bytes) ⌝ }
 {
     let p = put_head(out, s, frames);
     put_lines(out, p, s.nb, table, frames)
@@ -57,9 +56,9 @@ fn put_report(out: &mut [u8], s: Settings, table: &[i32], frames: usize) -> usiz
 // The text for an input that begins with these bytes, in the first bytes of `out`; how many they are. `more` says whether bytes follow: then these are as many as the longest
 // sheet has. The sheet's rows are left in the first rows of `table`, by a refusal nothing; all else stays.
 pub fn sheet_text(input: &[u8], more: bool, table: &mut [i32], out: &mut [u8]) -> usize
-    requires { ⌜ (more ≡ true → 32804 ≤ length (now input)) × (32768 ≤ length (now table)) × (397383 ≤ length (now out)) ⌝ }
+    requires { ⌜ (more ≡ true → sheet-length most-frames most-frames ≤ length (now input)) × (most-frames * row-size ≤ length (now table)) × (sheet-text-bytes ≤ length (now out)) ⌝ }
     ensures { λ r. ⌜ ((rest : List ℕ) → ltb 0 (length rest) ≡ more → sheet-printed r (now (out .exit)) (now (table .exit)) ≡ sheet-text-call (now (input .entry) ++ rest) (now (out .entry)) (now (table .entry))) ⌝ }
-    ensures { λ r. ⌜ r ≤ 397383 ⌝ }
+    ensures { λ r. ⌜ r ≤ sheet-text-bytes ⌝ }
 {
     if more {
         return put_refused(out, 0, 9);

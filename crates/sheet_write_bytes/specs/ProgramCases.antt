@@ -16,7 +16,7 @@ use Rattle.track_sheet.specs.Accepted.{stored-settings, paper-rows, paper-sheet
 use Rattle.sheet_write_bytes.specs.Program.{sheet-written}
 
 -- `refused 10`, `refused 1`, and 36 bytes for one sample: five settings, and nothing in the three other sections
-pub written-cases :
+pub sheet-written-cases :
     map sheet-written ([] ∷ (9 ∷ 3 ∷ 3 ∷ replicate 8 0) ∷ (8 ∷ 2 ∷ 1 ∷ replicate 10 0) ∷ [])
     ≡ (114 ∷ 101 ∷ 102 ∷ 117 ∷ 115 ∷ 101 ∷ 100 ∷ 32 ∷ 49 ∷ 48 ∷ 10 ∷ [])
     ∷ (114 ∷ 101 ∷ 102 ∷ 117 ∷ 115 ∷ 101 ∷ 100 ∷ 32 ∷ 49 ∷ 10 ∷ [])

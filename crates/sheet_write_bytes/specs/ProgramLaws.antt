@@ -1,4 +1,4 @@
--- Laws of the written bytes: a refusal, a sheet, what a started, fed and written track leaves, and that a track of at most 1,024 frames is written on 8,228 bytes.
+-- Laws of the written bytes: a refusal, a sheet, what a started, fed and written track leaves, and that a track of at most the frames that a program takes is written on `longest-program-sheet` bytes.
 use mathlib.Core.Path.{_≡_, refl, ap, _∙_}
 use mathlib.Core.Bool.{Bool, true, false, cond}
 use mathlib.Core.List.{List, [], _∷_, _++_}
@@ -26,19 +26,19 @@ use Rattle.pitch_sheet.specs.declared.Wrote.the-variants.{Written, Refused}
 use Rattle.pitch_sheet.specs.Calls.{WriteOutcome, wrote, write-call}
 use Rattle.track_sheet.specs.Accepted.{stored-settings, paper-rows, paper-sheet}
 use Rattle.track_sheet.specs.AcceptedLaws.{accepted-by-write}
-use Rattle.track_text.specs.Program.{samples-in, program-no}
-use Rattle.sheet_write_bytes.specs.Program.{sheet-written}
-use Rattle.pitch_table.specs.Row.{row-size}
+use Rattle.pitch_recording.specs.Recording.{program-frames, recording-numbers, samples-in, recording-no}
+use Rattle.sheet_write_bytes.specs.Program.{longest-program-sheet, sheet-written}
+use Rattle.pitch_table.specs.Row.{row-size, most-frames}
 
 -- ---- the bytes
 
-pub written-refused : (b : List ℕ) (n : ℕ) → n ≡ program-no b → (n ≡ 0 → ⊥) → refused-text n ≡ sheet-written b
+pub written-refused : (b : List ℕ) (n : ℕ) → n ≡ recording-no b → (n ≡ 0 → ⊥) → refused-text n ≡ sheet-written b
 unfolding sheet-written
 written-refused b n e h = rw (← e, ne-eqb n 0 h)
 
-pub written-sheet : (b : List ℕ) → program-no b ≡ 0 → paper-sheet (input-settings b) (samples-in b) ≡ sheet-written b
+pub written-sheet : (b : List ℕ) → recording-no b ≡ 0 → paper-sheet (input-settings b) (samples-in b) ≡ sheet-written b
 unfolding sheet-written
-written-sheet b e = rw (eq-eqb (program-no b) 0 e)
+written-sheet b e = rw (eq-eqb (recording-no b) 0 e)
 
 -- ---- start, deliver, write: a recording that the track on paper accepts, and a page that has room for its sheet
 
@@ -71,11 +71,11 @@ module _ (s : Settings) (t x : List ℤ) (page : List ℕ) (h : settings-no s �
     pub sheet-put : (n : ℕ) → r ≡ Written n → (n ≡ length (paper-sheet s x)) × (p ≡ overwritten (paper-sheet s x) page)
     sheet-put n q = let a = ap (λ (o : WriteOutcome). o .answer) put in (cc, ap (λ (o : WriteOutcome). o .page) put)
 
--- ---- a track of at most 1,024 frames
+-- ---- a track of at most the frames that a program takes
 
-same : (b : Bool) → _≡_ {A = ℕ} (cond b 0 0) 0
-same true = refl
-same false = refl
+either-way : (b : Bool) → _≡_ {A = ℕ} (cond b 0 0) 0
+either-way true = refl
+either-way false = refl
 
 module _ (s : Settings) (x : List ℤ) (few : F s (length x) ≤ program-frames) where
   -- its sheet is no longer than the longest
@@ -83,10 +83,10 @@ module _ (s : Settings) (x : List ℤ) (few : F s (length x) ≤ program-frames)
   unfolding paper-sheet paper-rows
   small-sheet = omega (arith, length-sheet (stored-settings s) (paper-rows s x), section-entries-le Pairs (paper-rows s x), length-tabulate (paper-row s x no-previous) (F s (length x)))
 
-  -- the paper accepts it, with a table of 1,024 rows
-  pub few-taken : (t : List ℤ) → 8192 ≤ length t → paper-no track-limit s (length t / row-size) [] x ≡ 0
+  -- the paper accepts it, with a table that has a row for each
+  pub few-taken : (t : List ℤ) → recording-numbers ≤ length t → paper-no track-limit s (length t / row-size) [] x ≡ 0
   unfolding paper-no
   few-taken t rows =
-      let a : F s (length x) ≤ 4096 = omega arith in
+      let a : F s (length x) ≤ most-frames = omega arith in
       let b : F s (length x) ≤ length t / row-size = omega arith in
-      rw (zero-add (length x), le-ltb 4096 (F s (length x)) a, le-ltb (length t / row-size) (F s (length x)) b) (same (ltb (F s 0) (F s (length x))))
+      rw (zero-add (length x), le-ltb most-frames (F s (length x)) a, le-ltb (length t / row-size) (F s (length x)) b) (either-way (ltb (F s 0) (F s (length x))))

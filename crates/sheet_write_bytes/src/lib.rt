@@ -6,12 +6,13 @@ ghost use lib.ListN.{length};
 ghost use Rattle.lists.specs.Fill.{overwritten};
 ghost use Rattle.pitch_settings.specs.Settings.{settings-no};
 ghost use Rattle.track_paper.specs.Paper.{track-limit, paper-no, paper-table};
-ghost use Rattle.track_text.specs.Program.{track-printed};
+ghost use Rattle.pitch_recording.specs.Recording.{recording-samples, recording-bytes, recording-numbers, recording-printed};
 ghost use Rattle.track_sheet.specs.Accepted.{paper-sheet};
-ghost use Rattle.sheet_write_bytes.specs.Program.{sheet-bytes-call};
+ghost use Rattle.sheet_write_bytes.specs.Program.{longest-program-sheet, sheet-bytes-call};
 ghost use Rattle.pitch_table.specs.Row.{row-size};
-use pitch_input::load_samples;
-use pitch_input::settings_in;
+use pitch_recording::PROGRAM_FRAMES;
+use pitch_recording::Recording;
+use pitch_recording::take_recording;
 use pitch_settings::Settings;
 use pitch_sheet::Wrote;
 use pitch_sheet::write_sheet;
@@ -51,16 +52,13 @@ pub fn sheet_write_bytes(
     table: &mut [i32],
     out: &mut [u8],
 ) -> usize
-    requires { ⌜ (0 < more → 656651 ≤ length (now input)) × (328320 ≤ length (now samples)) × (8192 ≤ length (now table)) × (8228 ≤ length (now out)) ⌝ }
-    ensures { λ r. ⌜ ((rest : List ℕ) → length rest ≡ more → track-printed r (now (out .exit)) (now (samples .exit)) (now (table .exit)) ≡ sheet-bytes-call (now (input .entry) ++ rest) (now (out .entry)) (now (samples .entry)) (now (table .entry))) ⌝ }
-    ensures { λ r. ⌜ r ≤ 8228 ⌝ }
+    requires { ⌜ (0 < more → recording-bytes ≤ length (now input)) × (recording-samples ≤ length (now samples)) × (recording-numbers ≤ length (now table)) × (longest-program-sheet ≤ length (now out)) ⌝ }
+    ensures { λ r. ⌜ ((rest : List ℕ) → length rest ≡ more → recording-printed r (now (out .exit)) (now (samples .exit)) (now (table .exit)) ≡ sheet-bytes-call (now (input .entry) ++ rest) (now (out .entry)) (now (samples .entry)) (now (table .entry))) ⌝ }
+    ensures { λ r. ⌜ r ≤ longest-program-sheet ⌝ }
 {
-    let no = program_no(input, more);
-    if no != 0 {
-        return put_refused(out, 0, no as u32);
+    let taken = take_recording(input, more, samples);
+    match taken {
+        Recording::Refused(no) => put_refused(out, 0, no as u32),
+        Recording::Taken(s, n) => put_track(s, &samples[..n], table, out),
     }
-    let s = settings_in(input);
-    let n = (input.len() - 11) / 2;
-    load_samples(input, 11, &mut samples[..n]);
-    put_track(s, &samples[..n], table, out)
 }

@@ -16,7 +16,7 @@ use Rattle.pitch_settings.specs.declared.Settings.{Settings}
 use Rattle.pitch_settings.specs.Settings.{settings-no, held-no, frame-length}
 use Rattle.pitch_settings.specs.SettingsLaws.{accepted-settings, analysed-held}
 use Rattle.pitch_table.specs.declared.Row.{Row}
-use Rattle.pitch_table.specs.Row.{numbers}
+use Rattle.pitch_table.specs.Row.{numbers, voiced-row, unpitched-row}
 use Rattle.silk_tables.specs.Tables.{contours, contours2, in-use, greatest-lag, greatest-index}
 use Rattle.silk_tables.specs.TableLaws.{in-use-bounds}
 use Rattle.silk_tables.specs.ContourLaws.{contours-le-34}
@@ -70,9 +70,9 @@ module _ (s : Settings) (w : List ℤ) (h : settings-no s ≡ 0) (len : length w
       }
 
   -- stage 3's pair: a lag within the least and the greatest, a contour in use
-  pub pair-lag : (g : s .rate ≡ 8 → ⊥) (d j : ℕ) → stage3 w (s .rate) (s .nb) (s .complexity) (lag * s .rate / 8) ≡ Pair d j
+  pub stage3-range : (g : s .rate ≡ 8 → ⊥) (d j : ℕ) → stage3 w (s .rate) (s .nb) (s .complexity) (lag * s .rate / 8) ≡ Pair d j
       → (2 * s .rate ≤ d) × ((d ≤ greatest-lag (s .rate)) × (j < in-use (s .nb) (s .complexity)))
-  pair-lag g d j e =
+  stage3-range g d j e =
       let r = handed g in
       let m : Meaning w (s .rate) (s .nb) (s .complexity) (lag * s .rate / 8) (Pair d j) = subst (Meaning w (s .rate) (s .nb) (s .complexity) (lag * s .rate / 8)) e (stage3-means w (s .rate) (s .nb) (s .complexity) (lag * s .rate / 8) r) in
       ⊎-elim

@@ -12,10 +12,12 @@ use Rattle.zint.specs.TestLaws.{le-true, lt-true}
 use Rattle.zint.specs.OrderLaws.{le-yes, lt-yes}
 use Rattle.zint.specs.ShiftLaws.{nonneg-abs}
 use Rattle.zint.specs.DiffLaws.{le-of, lt-of, of-lt, zarith}
-use Rattle.silk_tables.specs.Tables.{TableSettings, contours, greatest-index}
-use Rattle.silk_tables.specs.Rebuild.{rebuilt, Coded, CarriedPair, accepted, carried, rebuild-call, rebuilt-numbers, rebuilt-number}
-use Rattle.zint.specs.BoolLaws.{and-left, and-right, or-cases}
-use Rattle.silk_tables.specs.TableLaws.{settings-of}
+use Rattle.silk_tables.specs.Tables.{contours, greatest-index}
+use Rattle.silk_tables.specs.Rebuild.{rebuilt, Coded, carried, CarriedPair, rebuildable, rebuild-call, rebuilt-numbers, rebuilt-number}
+use Rattle.zint.specs.BoolLaws.{and-left, and-right}
+use Rattle.pitch_settings.specs.declared.Settings.{Settings}
+use Rattle.pitch_settings.specs.Settings.{settings-refusal, complexity-held, held-no}
+use Rattle.pitch_settings.specs.SettingsLaws.{held-settings}
 use Rattle.silk_tables.specs.ContourLaws.{greatest-le, contours-le}
 use Rattle.silk_tables.specs.declared.rebuild.Rebuilt.{Rebuilt}
 use Rattle.silk_tables.specs.declared.rebuild.Rebuilt.the-variants.{Lag, NotCarried}
@@ -47,21 +49,22 @@ module _ {fs nb cx : ℕ} {index contour : ℤ} where
   contour-in : CarriedPair fs nb cx index contour → natAbs contour < contours fs nb cx
   contour-in p = let h = of-lt (subst (λ (z : ℤ). z <ℤ pos (contours fs nb cx)) (contour-abs p) (p .contour-lt)) in omega arith
 
-  pub coded : Accepted fs nb cx → CarriedPair fs nb cx index contour → (k : ℕ) → k < nb → Coded fs nb index (natAbs contour) k
-  coded a p k h =
-      let i = p .index-le in
-      let g = greatest-le fs in
-      let m = contour-in p in
-      let l = contours-le fs nb cx in
-      record {
-        rate-ge = a .rate-ge;
-        rate-le = a .rate-le;
-        subframes = a .settings .subframes;
-        index-ge = p .index-ge;
-        index-le = le-of index (pos 256) (omega zarith);
-        entry = omega arith;
-        subframe = h;
-      }
+pub coded : (s : Settings) {index contour : ℤ} → held-no s ≡ 0 → CarriedPair (s .rate) (s .nb) (s .complexity) index contour → (k : ℕ) → k < s .nb → Coded (s .rate) (s .nb) index (natAbs contour) k
+coded s {index} {contour} e p k h =
+    let a = held-settings s e in
+    let i = p .index-le in
+    let g = greatest-le (s .rate) in
+    let m = contour-in p in
+    let l = contours-le (s .rate) (s .nb) (s .complexity) in
+    record {
+      rate-ge = a .rate-low;
+      rate-le = a .rate-high;
+      subframes = a .subframes;
+      index-ge = p .index-ge;
+      index-le = le-of index (pos 256) (omega zarith);
+      entry = omega arith;
+      subframe = h;
+    }
 
 -- a pair of numbers that are not negative
 pub carried-pair : {fs nb cx i j : ℕ} → i ≤ greatest-index fs → j < contours fs nb cx → CarriedPair fs nb cx (pos i) (pos j)
@@ -81,9 +84,6 @@ module _ (fs nb cx : ℕ) (index contour : ℤ) (k : ℕ) where
   pub answer-by : {a b c : Bool} → eqb (settings-refusal fs nb (complexity-held cx)) 0 ≡ a → ltb k nb ≡ b → carried fs nb cx index contour ≡ c → rebuild-call fs nb cx index contour k ≡ cond (a && b && c) lag NotCarried
   unfolding rebuild-call
   answer-by p q r = λ i. cond (p i && q i && r i) lag NotCarried
-
-  pub answer-lag : Accepted fs nb cx → k < nb → CarriedPair fs nb cx index contour → rebuild-call fs nb cx index contour k ≡ lag
-  answer-lag a h p = answer-by (accepted-yes a) (lt-ltb k nb h) (carried-yes p)
 
   -- the answer in numbers
   pub rebuilt-in-numbers : rebuilt-numbers (rebuild-call fs nb cx index contour k) ≡ answer-numbers (rebuilt-number fs nb cx index contour k) (rebuilt fs nb index (natAbs contour) k ∷ [])

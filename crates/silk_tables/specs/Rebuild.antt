@@ -10,6 +10,7 @@ use lib.IntN.{ℤ, pos, natAbs, _+ℤ_}
 use lib.Signed.{leZ, ltZ, _≤ℤ_, _<ℤ_}
 use Rattle.zint.specs.Clamp.{clamp}
 use Rattle.lists.specs.Fill.{tabulate}
+use Rattle.pitch_settings.specs.Settings.{settings-refusal, complexity-held}
 use Rattle.silk_tables.specs.Tables.{least-lag, offset, offset2, contours, greatest-index}
 use Rattle.silk_tables.specs.declared.rebuild.Rebuilt.{Rebuilt}
 use Rattle.silk_tables.specs.declared.rebuild.Rebuilt.the-variants.{Lag, NotCarried}
@@ -64,7 +65,11 @@ pub record CarriedPair (fs nb cx : ℕ) (index contour : ℤ) : Type 0 where
   pub contour-ge : pos 0 ≤ℤ contour
   pub contour-lt : contour <ℤ pos (contours fs nb cx)
 
--- the answer for any numbers: a lag where the settings are accepted, the frame has a subframe k, and the pair is carried
+-- settings that a sheet can hold, a subframe of the frame, and a carried pair
+abbrev pub rebuildable : ℕ → ℕ → ℕ → ℤ → ℤ → ℕ → Bool
+rebuildable fs nb cx index contour k = eqb (settings-refusal fs nb (complexity-held cx)) 0 && ltb k nb && carried fs nb cx index contour
+
+-- the answer for any numbers: a lag where there is one to rebuild
 unfoldable pub rebuild-call : ℕ → ℕ → ℕ → ℤ → ℤ → ℕ → Rebuilt
 rebuild-call fs nb cx index contour k =
     cond (rebuildable fs nb cx index contour k) (Lag (rebuilt fs nb index (natAbs contour) k)) NotCarried

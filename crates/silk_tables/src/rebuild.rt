@@ -6,7 +6,7 @@ ghost use mathlib.Core.Logic.{_⊎_};
 ghost use Prim.Native.Nat.{_<_, _≤_};
 ghost use lib.IntN.{natAbs};
 ghost use Rattle.answers.specs.Answer.{answer-numbers};
-ghost use Rattle.silk_tables.specs.Rebuild.{lag-max, book-entries, book, rebuilt, Coded, accepted, carried, rebuild-call, rebuilt-numbers, rebuilt-number};
+ghost use Rattle.silk_tables.specs.Rebuild.{lag-max, book-entries, book, rebuilt, Coded, carried, rebuild-call, rebuilt-numbers, rebuilt-number};
 use crate::PE_MAX_LAG_MS;
 use crate::SILK_PE_MAX_COMPLEX;
 use pitch_settings::Settings;

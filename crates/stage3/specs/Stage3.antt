@@ -6,8 +6,9 @@ use lib.IntN.{ℤ, pos, _+ℤ_}
 use mir.Syntax.{w32}
 use Rattle.zint.specs.Clamp.{sat}
 use Rattle.zint.specs.Wrap.{wrap}
+use Rattle.silk_sigproc.specs.Dot.{energy-sum}
 use Rattle.best.specs.Best.{Place, none, at}
-use Rattle.stage3_arrays.specs.Arrays.{energy-sum, cross-at, energy-at, LagInFrame}
+use Rattle.stage3_arrays.specs.Arrays.{cross-at, energy-at, LagInFrame}
 use Rattle.stage3.specs.declared.Found.{Found}
 use Rattle.stage3.specs.declared.Found.the-variants.{Pair, ZeroDivisor}
 use Rattle.stage3.specs.Pick.{Choice, first-tried, lag-no, contour-no, zero3, best3, pick}

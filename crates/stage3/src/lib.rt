@@ -16,7 +16,7 @@ use silk_macros::silk_add_sat32;
 use silk_macros::silk_div32_16;
 use silk_macros::silk_div32_varq;
 use silk_macros::silk_smulwb;
-use silk_sigproc::silk_inner_prod_aligned;
+use silk_sigproc::energy_from;
 use stage3_arrays::silk_p_ana_calc_corr_st3;
 use stage3_arrays::silk_p_ana_calc_energy_st3;
 use zint::wrapping_add_i32;
@@ -228,12 +228,8 @@ fn target_energy(frame: &[i16], nb_subfr: usize, fs_khz: usize) -> i32
     requires { ⌜ («fs_khz» ≤ 16) × (20 * «fs_khz» + «nb_subfr» * (5 * «fs_khz») ≤ length (now frame)) ⌝ }
     ensures { λ r. ⌜ r ≡ energy-target (now (frame .entry)) «fs_khz» «nb_subfr» ⌝ }
 {
-    let target = 20 * fs_khz;
     let sf_length = 5 * fs_khz;
-    wrapping_add_i32(
-        silk_inner_prod_aligned(&frame[target..], &frame[target..], nb_subfr * sf_length),
-        1,
-    )
+    wrapping_add_i32(energy_from(frame, 20 * fs_khz, nb_subfr * sf_length), 1)
 }
 
 // Stage 3 for a working frame and the winner of stage 2 scaled to its rate: the pair of a lag and a contour, or a zero divisor.

@@ -1,6 +1,5 @@
 -- Each finished row says what `specs/Meaning` states: from the theorem of the frame, at the row's own samples and what the row before it left.
-use mathlib.Core.Path.{_≡_, refl, ap, _∙_}
-use mathlib.Core.Bool.{Bool, true, false, cond}
+use mathlib.Core.Path.{_≡_, refl, sym, ap, _∙_}
 use mathlib.Core.List.{List, _∷_}
 use mathlib.Core.Logic.{_⊎_, inl, inr}
 use Prim.Native.Nat.{ℕ, zero, suc, _+_, _*_, _≤_, _<_}
@@ -91,7 +90,7 @@ zeros-by s ZeroDivisor h = refl
 
 -- the row of a whole frame
 pub row-says : (s : Settings) (x : List ℤ) (p : Prev) → settings-no s ≡ 0 → length x ≡ frame-length s → RowSays s x p (next-row s x p)
-unfolding frame-row row-from
+unfolding frame-row row-from voiced-row unpitched-row
 row-says s x p h len =
     let v : Verdict = verdict-of s x (p .lag) (p .correlation) in
     let exactly : VerdictExactly s x (p .lag) (p .correlation) = verdict-exactly s x (p .lag) (p .correlation) h len in
@@ -101,11 +100,11 @@ row-says s x p h len =
       voiced-where =
           λ i c q m.
           let e : verdict-of s x (p .lag) (p .correlation) ≡ Voiced i c q = exactly (Voiced i c q) .1 m in
-          record { verdict-is = ap number-of e; index-is = ap index-of e; contour-is = ap contour-of e; correlation-is = ap correlation-of e };
-      unvoiced-only = λ e. exactly Unvoiced .0 (is-unvoiced v e);
-      unvoiced-where = λ m. ap number-of (exactly Unvoiced .1 m);
-      zero-only = λ e. exactly ZeroDivisor .0 (is-zero v e);
-      zero-where = λ m. ap number-of (exactly ZeroDivisor .1 m);
+          record { verdict-is = ap (λ (u : Verdict). row-from s u .verdict) e; index-is = ap (λ (u : Verdict). row-from s u .index) e; contour-is = ap (λ (u : Verdict). row-from s u .contour) e; correlation-is = ap (λ (u : Verdict). row-from s u .correlation) e };
+      unvoiced-only = λ e. exactly Unvoiced .0 (is-unvoiced s v e);
+      unvoiced-where = λ m. ap (λ (u : Verdict). row-from s u .verdict) (exactly Unvoiced .1 m);
+      zero-only = λ e. exactly ZeroDivisor .0 (is-zero s v e);
+      zero-where = λ m. ap (λ (u : Verdict). row-from s u .verdict) (exactly ZeroDivisor .1 m);
       lags = λ e k l. lags-by s v (accepted-settings s h .nb-high) e k l;
       no-more-lags = λ k l. past s v (accepted-settings s h .nb-high) k l;
       zeros-after = λ e. zeros-by s v e;

@@ -10,7 +10,6 @@ use lib.Signed.{quotZ}
 use mir.Syntax.{w32}
 use mir.Val.{SFits}
 use Rattle.zint.specs.BoundLaws.{abs-prod, abs-fits}
-use Rattle.silk_tables.specs.CarriedLaws.{carried-yes}
 use Rattle.stage2_correlations.specs.Correlations.{correlation2}
 use Rattle.stage2_correlations.specs.RowLaws.{correlation-small}
 use Rattle.stage2.specs.Scores.{contour-sum}

@@ -11,16 +11,16 @@ use Rattle.pitch_recording.specs.Recording.{program-frames, samples-in, recordi
 use Rattle.pitch_settings.specs.declared.Settings.{Settings}
 use Rattle.pitch_settings.specs.Settings.{frame-length, hop-length}
 use Rattle.pitch_text.specs.Decimal.{digits}
-use Rattle.pitch_text.specs.Text.{word-digits, longest-line, lines-text, refused-text}
+use Rattle.pitch_text.specs.Text.{digits-bytes, line-bytes, lines-text, refused-text}
 use Rattle.track_paper.specs.Paper.{F, paper-row, no-previous, paper-table}
 
 -- the longest first line: two numbers, a space between them and the line's end
 abbrev pub longest-head : ℕ
-longest-head = word-digits + 1 + word-digits + 1
+longest-head = digits-bytes + 1 + digits-bytes + 1
 
 -- the longest text: that line, and a line for each frame that a program takes
 abbrev pub longest-text : ℕ
-longest-text = longest-head + longest-line * program-frames
+longest-text = longest-head + line-bytes * program-frames
 
 -- of n samples, those after the last frame's end; all of them where there is no frame
 unfoldable pub samples-left : Settings → ℕ → ℕ

@@ -22,7 +22,7 @@ use pitch_text::put_refused;
 use pitch_track::Track;
 
 // The longest text: the first line's two numbers, the space between them and its end, and a line for each frame that a program takes.
-pub const LONGEST_TEXT: usize = WORD_DIGITS + 1 + WORD_DIGITS + 1 + LONGEST_LINE * PROGRAM_FRAMES;
+pub const LONGEST_TEXT: usize = DIGITS_BYTES + 1 + DIGITS_BYTES + 1 + LINE_BYTES * PROGRAM_FRAMES;
 
 // Of n samples with these frames, those after the last frame's end.
 fn samples_left(s: Settings, n: usize, frames: usize) -> usize

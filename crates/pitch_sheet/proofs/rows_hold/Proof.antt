@@ -6,7 +6,6 @@ use native.Mathlib.Omega.{arith}
 use borrow.Author.Count.{below-more}
 use borrow.Author.Tests.{not-true, not-false}
 use Rattle.pitch_table.specs.Row.{row-at}
-use Rattle.pitch_settings.specs.SettingsLaws.{analysed-held}
 use Rattle.sheet_rows.specs.Rows.{row-holds}
 use Rattle.pitch_sheet.specs.CallsLaws.{hold-all, hold-not}
 use borrow.Author.Needs.{needs}
@@ -29,7 +28,7 @@ get-row-requires : tie.Need-get-row-requires Inv-loop μ-loop
 get-row-requires c κs = omega arith
 
 row-holds-requires : tie.Need-row-holds-requires Inv-loop μ-loop
-row-holds-requires c κs = analysed-held _ (c .before .before .before .pre .0)
+row-holds-requires c κs = c .before .before .before .pre .0
 
 returns : tie.Need-returns Inv-loop μ-loop
 returns c =

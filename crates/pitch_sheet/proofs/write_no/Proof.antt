@@ -3,7 +3,7 @@ use mathlib.Core.Path.{_≡_, sym, ap₂, _∙_}
 use Prim.Native.Nat.{min}
 use native.Mathlib.Omega.{arith}
 use lib.ListN.{length}
-use Rattle.pitch_settings.specs.Settings.{settings-no}
+use Rattle.pitch_settings.specs.Settings.{held-no}
 use Rattle.sheet_sections.specs.declared.Section.the-variants.{Pairs}
 use Rattle.sheet_sections.specs.Sheet.{sheet, sheet-length, rows-of}
 use Rattle.sheet_sections.specs.SheetLaws.{length-rows, length-sheet, section-entries-le}
@@ -12,8 +12,8 @@ use Rattle.pitch_sheet.specs.CallsLaws.{no-settings, no-frames, no-rows,
 use Rattle.pitch_sheet.proofs.write_no.Statement.{statement}
 use Rattle.pitch_sheet.proofs.write_no.Tie as tie
 
-settled : (c : tie.Else1) → settings-no (c .before .before .args .s) ≡ 0
-settled c = sym (c .before .settings-no .ensures) ∙ c .if1 .left
+settled : (c : tie.Else1) → held-no (c .before .before .args .s) ≡ 0
+settled c = sym (c .before .held-no .ensures) ∙ c .if1 .left
 
 -- the sheet's length
 long : (c : tie.After-sheet-length) → c .sheet-length .result ≡ length (sheet (c .before .before .before .before .before .before .before .before .args .s) (rows-of (c .before .before .before .before .before .before .before .before .args .table .now) (c .before .before .before .before .before .before .before .before .args .frames)))
@@ -22,11 +22,11 @@ long c =
     let rs = rows-of (a .table .now) (a .frames) in
     c .sheet-length .ensures ∙ ap₂ sheet-length (sym (length-rows (a .table .now) (a .frames))) (c .before .voiced-rows .ensures) ∙ sym (length-sheet (a .s) rs)
 
-settings-no-requires : tie.Need-settings-no-requires
-settings-no-requires c κs = tt
+held-no-requires : tie.Need-held-no-requires
+held-no-requires c κs = tt
 
 returns : tie.Need-returns
-returns c = let a = c .before .before .args in let e = c .before .settings-no .ensures in e ∙ sym (no-settings (a .s) (a .frames) (a .table .now) (a .room) (λ z. c .if1 .taken (e ∙ z)))
+returns c = let a = c .before .before .args in let e = c .before .held-no .ensures in e ∙ sym (no-settings (a .s) (a .frames) (a .table .now) (a .room) (λ z. c .if1 .taken (e ∙ z)))
 
 returns-2 : tie.Need-returns-2
 returns-2 c = let a = c .before .before .before .args in sym (no-frames (a .s) (a .frames) (a .table .now) (a .room) (settled (c .before)) (c .if2 .taken))
@@ -86,5 +86,5 @@ returns-7 c =
 pub write-no-spec : {M : Type 1} → statement M
 write-no-spec =
     tie.close
-    (tie.spec settings-no-requires returns returns-2 rows-hold-requires returns-3 returns-4 rows-hold-requires-2 voiced-rows-requires
+    (tie.spec held-no-requires returns returns-2 rows-hold-requires returns-3 returns-4 rows-hold-requires-2 voiced-rows-requires
     sheet-length-requires returns-5 returns-6 returns-7)

@@ -12,7 +12,7 @@ use Rattle.sheet_rows.specs.Rows.{row-of}
 use Rattle.sheet_page.specs.PageLaws.{row-voiced, row-quiet, head-means, sizes-means, Places, places, small, verdict-within}
 use Prim.Native.Nat.{ℕ, _+_, _*_, _≤_, _<_}
 use native.Mathlib.Omega.{arith}
-use Rattle.pitch_settings.specs.Settings.{settings-no}
+use Rattle.pitch_settings.specs.Settings.{held-no}
 use Rattle.pitch_table.specs.Row.{most-frames}
 use Rattle.sheet_sections.specs.declared.Section.the-variants.{Pairs, Correlations}
 use Rattle.sheet_sections.specs.Sheet.{index-bytes, entry-bytes, verdicts-at, pairs-at, correlations-at, sheet-length}
@@ -35,7 +35,7 @@ module _ (c : tie.Start) where
   within = verdict-within (c .args .page .now) (sizes-means (c .args .page .now) (c .pre .1)) (c .args .i) (c .pre .3)
 
   settled : held-no (c .args .h .settings) ≡ 0
-  settled = ap (λ (h : Head). held-no (h .settings)) (c .pre .2) ∙ analysed-held _ (head-means (c .args .page .now) (c .pre .0) .settings)
+  settled = ap (λ (h : Head). held-no (h .settings)) (c .pre .2) ∙ head-means (c .args .page .now) (c .pre .0) .settings
 
 -- a voiced frame: where its pair and its correlation stand
 voiced-places : (c : tie.Else1) → Places (c .before .before .before .before .args .page .now) (c .before .before .before .before .args .i)

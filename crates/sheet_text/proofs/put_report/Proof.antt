@@ -1,7 +1,7 @@
 -- `sheet_text::put_report` meets its contract.
 use native.Mathlib.Omega.{arith}
 use borrow.Author.Needs.{needs}
-use Rattle.pitch_settings.specs.SettingsLaws.{accepted-settings}
+use Rattle.pitch_settings.specs.SettingsLaws.{held-settings}
 use Rattle.pitch_text.specs.TextLaws.{put-then}
 use Rattle.sheet_text.specs.Program.{sheet-report}
 use Rattle.sheet_text.proofs.put_report.Statement.{statement}
@@ -14,7 +14,7 @@ put-lines-requires : tie.Need-put-lines-requires
 put-lines-requires c κs =
     let h = c .before .before .before .put-head in
     let s = c .before .before .before .before .before .before in (
-      omega (arith, accepted-settings (s .args .s) (s .pre .0) .nb-high),
+      omega (arith, held-settings (s .args .s) (s .pre .0) .nb-high),
       omega (arith, s .pre .1),
       omega (arith, s .pre .2),
       omega (arith, h .ensures .1, h .kept .0, s .pre .1, s .pre .3),

@@ -1,153 +1,113 @@
 -- `sheet_write_bytes::sheet_write_bytes` meets its contract.
 use mathlib.Core.Path.{_≡_, sym, ap, ap₂, _∙_}
 use mathlib.Core.List.{List, _++_}
-use Prim.Native.Nat.{ℕ, _-_, _/_, _≤_}
+use Prim.Native.Nat.{ℕ, _≤_}
 use native.Mathlib.Omega.{arith}
+use borrow.Author.Needs.{needs}
 use lib.IntN.{ℤ}
-use lib.ListN.{length, take, drop, length-append, length-drop}
+use lib.ListN.{length, take}
 use lib.Seq.{length-take-le}
 use Rattle.lists.specs.Fill.{overwritten}
-use Rattle.pitch_settings.specs.Settings.{settings-no}
-use Rattle.pitch_input.specs.InputLaws.{loaded, loaded-over}
-use Rattle.track_paper.specs.Paper.{F, paper-table}
+use Rattle.pitch_recording.specs.Recording.{program-frames, recording-printed}
+use Rattle.pitch_recording.specs.RecordingLaws.{IsTaken, IsRefused, is-taken, is-refused, any-rest, length-any-rest, few-samples, printed-refused, printed-taken}
 use Rattle.pitch_text.specs.TextLaws.{put-as, put-count, put-over}
-use Rattle.track_text.specs.Program.{samples-in, program-no}
-use Rattle.track_text.specs.ProgramLaws.{Ready, at-hand, small-number, few-samples, samples-count, none-after, answer-refused, answer-taken}
+use Rattle.track_paper.specs.Paper.{F, paper-table}
 use Rattle.track_sheet.specs.Accepted.{paper-sheet}
-use Rattle.sheet_write_bytes.specs.Program.{sheet-bytes-call}
+use Rattle.sheet_write_bytes.specs.Program.{longest-program-sheet, sheet-bytes-call}
 use Rattle.sheet_write_bytes.specs.ProgramLaws.{written-refused, written-sheet, small-sheet, few-taken}
 use Rattle.sheet_write_bytes.proofs.sheet_write_bytes.Statement.{statement}
 use Rattle.sheet_write_bytes.proofs.sheet_write_bytes.Tie as tie
 
--- an input that is not refused is all at hand, and its samples have room
-whole : (c : tie.Else1) → (c .before .before .before .before .args .more ≡ 0) × Ready (c .before .before .before .before .args .input .now)
-whole c =
-    let s = c .before .before .before .before in
-    at-hand (s .args .input .now) (s .args .more) (c .before .program-no .result) (s .pre .0) (c .before .program-no .ensures) (c .if1 .left)
+module _ (c : tie.After-take-recording) where
+  abbrev start : tie.Start
+  start = c .before .before .before .before
 
-abbrev count : tie.Else1 → ℕ
-count c = (length (c .before .before .before .before .args .input .now) - 11) / 2
+  -- the samples at the end
+  abbrev left : List ℤ
+  left = c .take-recording .last .1 .1 .0
 
-room : (c : tie.Else1) → count c ≤ length (c .before .before .before .before .args .samples .now)
-room c =
-    let s = c .before .before .before .before in
-    let w = whole c .1 in
-    omega (arith, few-samples _ (w .known) _ (w .few), samples-count (s .args .input .now), s .pre .1)
+-- an input that is refused, with any bytes after those at hand
+module _ (c : tie.After-taken) where
+  abbrev refused-at : tie.After-take-recording
+  refused-at = c .before .before .before
 
--- the samples that are loaded
-module _ (c : tie.After-load-samples) where
-  front : length (c .load-samples .last .1 .1 .0) ≡ count (c .before .before .before)
-  front = c .load-samples .kept .1 .1 .0 ∙ length-take-le _ (c .before .before .before .before .before .before .before .args .samples .now) (room (c .before .before .before))
+  refused : (rest : List ℕ) → length rest ≡ start refused-at .args .more
+      → IsRefused (start refused-at .args .input .now ++ rest) (start refused-at .args .samples .now) (c .taken .given .0 .0) (left refused-at)
+  refused rest e = is-refused _ _ _ _ (refused-at .take-recording .ensures rest e) _ (c .taken .given .1)
 
-  abbrev x : List ℤ
-  x = take (count (c .before .before .before)) (c .load-samples .last .1 .1 .0 ++ drop (count (c .before .before .before)) (c .before .before .before .before .before .before .before .args .samples .now))
+-- one that is taken
+module _ (c : tie.After-taken2) where
+  abbrev taken-at : tie.After-take-recording
+  taken-at = c .before .before .before
 
-  x-is : x ≡ samples-in (c .before .before .before .before .before .before .before .args .input .now)
-  unfolding samples-in
-  x-is = loaded (c .before .before .before .before .before .before .before .args .input .now) 11 (count (c .before .before .before)) (c .before .before .before .before .before .before .before .args .samples .now) (c .load-samples .last .1 .1 .0) (room (c .before .before .before)) (c .load-samples .ensures)
+  abbrev n : ℕ
+  n = c .taken2 .given .0 .1 .0
 
-  whole-is : c .load-samples .last .1 .1 .0 ++ drop (count (c .before .before .before)) (c .before .before .before .before .before .before .before .args .samples .now) ≡ overwritten (samples-in (c .before .before .before .before .before .before .before .args .input .now)) (c .before .before .before .before .before .before .before .args .samples .now)
-  unfolding samples-in
-  whole-is = loaded-over (c .before .before .before .before .before .before .before .args .input .now) 11 (count (c .before .before .before)) (c .before .before .before .before .before .before .before .args .samples .now) (c .load-samples .last .1 .1 .0) (room (c .before .before .before)) (c .load-samples .ensures)
+  taken : (rest : List ℕ) → length rest ≡ start taken-at .args .more
+      → IsTaken (start taken-at .args .input .now ++ rest) (start taken-at .args .samples .now) (c .taken2 .given .0 .0) n (left taken-at)
+  taken rest e = is-taken _ _ _ _ (taken-at .take-recording .ensures rest e) _ _ (c .taken2 .given .1)
 
-  -- they have at most 1,024 frames, and a sheet of at most 8,228 bytes
-  few : F (c .before .before .settings-in .result) (length x) ≤ 1024
-  few = rw (c .before .before .settings-in .ensures, x-is) (whole (c .before .before .before) .1 .few)
+  any : IsTaken (start taken-at .args .input .now ++ any-rest (start taken-at .args .more)) (start taken-at .args .samples .now) (c .taken2 .given .0 .0) n (left taken-at)
+  any = taken (any-rest (start taken-at .args .more)) (length-any-rest (start taken-at .args .more))
 
-  small : length (paper-sheet (c .before .before .settings-in .result) x) ≤ 8228
-  small = small-sheet (c .before .before .settings-in .result) x few
+  room : n ≤ length (left taken-at)
+  room = omega (arith, few-samples _ (any .known) n (any .few), taken-at .take-recording .kept .1 .1 .0, start taken-at .pre .1)
 
-program-no-requires : tie.Need-program-no-requires
-program-no-requires c κs = c .before .before .pre .0
+  few : F (c .taken2 .given .0 .0) (length (take n (left taken-at))) ≤ program-frames
+  few = rw (length-take-le _ _ room) (any .few)
+
+  small : length (paper-sheet (c .taken2 .given .0 .0) (take n (left taken-at))) ≤ longest-program-sheet
+  small = small-sheet (c .taken2 .given .0 .0) (take n (left taken-at)) few
 
 cast-put-refused : tie.Need-cast-put-refused
-cast-put-refused c =
-    let s = c .before .before .before .before .before in
-    omega (arith, small-number (s .args .input .now) (s .args .more) (c .before .before .program-no .result) (c .before .before .program-no .ensures))
+cast-put-refused c = let t = c .before .before in let more = start (refused-at t) .args .more in omega (arith, refused t (any-rest more) (length-any-rest more) .small)
 
-put-refused-requires : tie.Need-put-refused-requires
-put-refused-requires c κs = omega (arith, c .before .before .before .before .before .pre .3)
+slice-reshare-prefix-put-track : tie.Need-slice-reshare-prefix-put-track
+slice-reshare-prefix-put-track c = room (c .before)
 
-same-length : tie.Need-same-length
-same-length c = c .before .before .put-refused .kept .0
+slice-aggregate-put-track : tie.Need-slice-aggregate-put-track
+slice-aggregate-put-track c = sym (length-take-le _ _ (room (c .before .before)))
+
+put-track-requires : tie.Need-put-track-requires
+put-track-requires c κs =
+    let t = c .before .before .before .before in
+    let s = start (taken-at t) in
+    (any t .known, few-taken _ _ (few t) (s .args .table .now) (s .pre .2), omega (arith, small t, s .pre .3))
 
 returns : tie.Need-returns
 unfolding sheet-bytes-call
 returns c =
-    let s = c .before .before .before .before .before .before .before .before in
-    let p = c .before .before .before .before .before .program-no in
-    let w = c .before .before .put-refused .ensures in
-    let out = s .args .out .now in (
+    let t = c .before .before .before .before .before in
+    let s = start (refused-at t) in
+    let w = c .before .before .put-refused .ensures in (
       λ rest e.
+          let f = refused t rest e in
           let b = s .args .input .now ++ rest in
-          let wrong = c .before .before .before .before .if1 .taken in
-          let q = put-as (w .0) (written-refused b (p .result) (p .ensures rest e) wrong) in
-          answer-refused b _ out (s .args .samples .now) (s .args .table .now) (put-count q) (put-over q (omega (arith, w .1, s .pre .3))) (p .result) (p .ensures rest e) wrong,
+          let q = put-as (w .0) (written-refused b _ (f .number-is) (f .some-number)) in
+          ap (λ (x : List ℤ). recording-printed (c .before .before .put-refused .result) (c .before .before .put-refused .last .0) x (s .args .table .now)) (f .samples-stay)
+          ∙ printed-refused b _ (s .args .out .now) (s .args .samples .now) (s .args .table .now) (put-count q) (put-over q (omega (arith, w .1, s .pre .3))) _ (f .number-is) (f .some-number),
       omega (arith, w .1),
     )
-
-settings-in-requires : tie.Need-settings-in-requires
-settings-in-requires c κs = whole c .1 .enough
-
-sub-n : tie.Need-sub-n
-sub-n c = whole (c .before) .1 .enough
-
-slice-relend-prefix-load-samples : tie.Need-slice-relend-prefix-load-samples
-slice-relend-prefix-load-samples c = room (c .before)
-
-slice-aggregate-load-samples : tie.Need-slice-aggregate-load-samples
-slice-aggregate-load-samples c = sym (length-take-le _ (c .before .before .before .before .before .before .args .samples .now) (room (c .before .before)))
-
-load-samples-requires : tie.Need-load-samples-requires
-load-samples-requires c κs =
-    rw (length-take-le _ (c .before .before .before .before .before .before .args .samples .now) (room (c .before .before))) (omega (arith, whole (c .before .before) .1 .enough))
-
-slice-reshare-prefix-put-track : tie.Need-slice-reshare-prefix-put-track
-slice-reshare-prefix-put-track c = rw length-append (omega (arith, front (c .before)))
-
-slice-aggregate-put-track : tie.Need-slice-aggregate-put-track
-slice-aggregate-put-track c = sym (length-take-le _ _ (rw length-append (omega (arith, front (c .before .before)))))
-
-put-track-requires : tie.Need-put-track-requires
-put-track-requires c κs =
-    let d = c .before .before .before .before in
-    let s = c .before .before .before .before .before .before .before .before .before .before .before in
-    (ap settings-no (d .before .before .settings-in .ensures) ∙ whole (d .before .before .before) .1 .known, few-taken _ (x d) (few d) (s .args .table .now) (s .pre .2), omega (arith, small d, s .pre .3))
-
-same-length-2 : tie.Need-same-length-2
-same-length-2 c =
-    let s = c .before .before .before .before .before .before .before .before .before .before .before .before .before .before .before in
-    let d = c .before .before .before .before .before .before .before .before in
-    rw length-append (omega (arith, front d, length-drop (count (d .before .before .before)) (s .args .samples .now), room (d .before .before .before)))
-
-same-length-3 : tie.Need-same-length-3
-same-length-3 c = c .before .before .before .put-track .kept .1 .1 .0
-
-same-length-4 : tie.Need-same-length-4
-same-length-4 c = c .before .before .before .put-track .kept .1 .1 .1 .0
 
 returns-2 : tie.Need-returns-2
 unfolding sheet-bytes-call
 returns-2 c =
-    let s = c .before .before .before .before .before .before .before .before .before .before .before .before .before .before .before in
-    let p = c .before .before .before .before .before .before .before .before .before .before .before .before .program-no in
-    let d = c .before .before .before .before .before .before .before .before in
+    let t = c .before .before .before .before .before .before .before .before in
+    let s = start (taken-at t) in
     let w = c .before .before .before .put-track .ensures in
-    let b = s .args .input .now in
-    let out = s .args .out .now in
-    let settings = d .before .before .settings-in .ensures in (
+    let out = s .args .out .now in (
       λ rest e.
-          let g = none-after b rest (s .args .more) (whole (d .before .before .before) .0) e in
-          let z = ap program-no (sym g) ∙ sym (p .ensures rest e) ∙ c .before .before .before .before .before .before .before .before .before .before .before .if1 .left in
-          let k = ap₂ paper-sheet settings (x-is d) ∙ written-sheet b z in
-          answer-taken b _ out _ _ (w .0 ∙ ap length k) (w .1 ∙ ap (λ (l : List ℕ). overwritten l out) k) z (whole-is d) (w .2 ∙ (λ i. paper-table (settings i) (s .args .table .now) (x-is d i)))
-          ∙ ap (λ (l : List ℕ). sheet-bytes-call l out (s .args .samples .now) (s .args .table .now)) (sym g),
-      omega (arith, w .0, small d),
+          let f = taken t rest e in
+          let b = s .args .input .now ++ rest in
+          let k = ap₂ paper-sheet (f .settings-are) (f .front) ∙ written-sheet b (f .no-refusal) in
+          printed-taken b _ out _ _ (w .0 ∙ ap length k) (w .1 ∙ ap (λ (l : List ℕ). overwritten l out) k) (f .no-refusal) (f .samples-are)
+          (w .2 ∙ (λ i. paper-table (f .settings-are i) (s .args .table .now) (f .front i))),
+      omega (arith, w .0, small t),
     )
 
 pub sheet-write-bytes-spec : {M : Type 1} → statement M
 sheet-write-bytes-spec =
     tie.close
-    (tie.spec program-no-requires cast-put-refused put-refused-requires same-length returns settings-in-requires sub-n
-    slice-relend-prefix-load-samples slice-aggregate-load-samples load-samples-requires slice-reshare-prefix-put-track slice-aggregate-put-track
-    put-track-requires same-length-2 same-length-3 same-length-4 returns-2)
+    (tie.spec (λ c κs. search needs) (λ c. search needs) cast-put-refused (λ c κs. search needs) (λ c. search needs)
+    slice-reshare-prefix-put-track slice-aggregate-put-track put-track-requires (λ c. search needs) (λ c. search needs) returns
+    (λ c. search needs) (λ c. search needs) (λ c. search needs) returns-2)

@@ -5,8 +5,7 @@ use mir.Syntax.{w32}
 use mir.Val.{toZ, ofZ}
 use Rattle.zint.specs.ReadLaws.{r-got}
 use Rattle.zint.specs.RuleLaws.{zneeds}
-use Rattle.silk_tables.specs.CarriedLaws.{contour-abs}
-use Rattle.silk_tables.specs.Rebuild.{CarriedPair, Coded, rebuilt}
+use Rattle.pitch_table.specs.Row.{pair-lag}
 use Rattle.silk_pitch_analysis.specs.declared.Verdict.{Verdict}
 use Rattle.silk_pitch_analysis.specs.Frame.{lag-of}
 use Rattle.silk_pitch_analysis.specs.FrameLaws.{pair-of}

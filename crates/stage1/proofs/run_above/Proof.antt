@@ -32,7 +32,7 @@ returns c =
     let a = s .before .args in
     let x : toZ w32 (ofZ w32 (toZ w16 (ofZ w16 (getD (a .c-combined .now) (s .loop .i) (pos 0))))) ≡ getD (a .c-combined .now) (s .loop .i) (pos 0) = search zneeds in
     let t = r-var (s .before .fits .threshold) .val in
-    count-above-is (a .c-combined .now) (a .n) (a .threshold) (s .loop .i) (omega arith) (λ q h. subst (λ (z : ℤ). z <ℤ sample (a .c-combined .now) q) t (s .loop .inv .1 q h)) (λ h. le-by x t (c .if1 .taken))
+    count-above-is (a .c-combined .now) (a .n) (a .threshold) (s .loop .i) (omega arith) (λ q h. subst (λ (z : ℤ). z <ℤ sample (a .c-combined .now) q) t (s .loop .inv .1 q h)) (λ h. le-read x t (c .if1 .taken))
 
 loop-again : tie.Need-loop-again Inv-loop μ-loop
 unfolding sample

@@ -12,8 +12,11 @@ use mir.Val.{toZ, ofZ}
 use Rattle.answers.specs.Answer.{answer-numbers}
 use Rattle.zint.specs.BoundLaws.{fits-abs}
 use Rattle.zint.specs.ReadLaws.{r-var, r-got, as-unsigned}
-use Rattle.silk_tables.specs.Rebuild.{rebuilt, Coded, CarriedPair, accepted, carried, rebuild-call, rebuilt-numbers, rebuilt-number}
-use Rattle.silk_tables.specs.CarriedLaws.{accepted-means, carried-means, contour-abs, coded, answer-by, answer-lag, rebuilt-in-numbers}
+use Rattle.pitch_settings.specs.declared.Settings.{Settings}
+use Rattle.pitch_settings.specs.Settings.{settings-refusal, complexity-held, held-no}
+use Rattle.pitch_settings.specs.SettingsLaws.{held-settings}
+use Rattle.silk_tables.specs.Rebuild.{rebuilt, Coded, carried, CarriedPair, rebuild-call, rebuilt-numbers, rebuilt-number}
+use Rattle.silk_tables.specs.CarriedLaws.{carried-means, carried-yes, contour-abs, coded, answer-by, rebuilt-in-numbers}
 use Rattle.silk_tables.specs.declared.rebuild.Rebuilt.{Rebuilt}
 use Rattle.silk_tables.specs.declared.rebuild.Rebuilt.the-variants.{Lag, NotCarried}
 use borrow.Author.Needs.{needs}
