@@ -1,4 +1,4 @@
--- Settings that are analysed, settings that a sheet can hold, and the sizes that settings give (docs/SCOPE.md, Words and Refusals). Definitions only.
+-- Settings that are analysed, settings that a sheet can hold, and the sizes that settings give (docs/SCOPE.md, Settings and Refusals). Definitions only.
 use mathlib.Core.Bool.{Bool, _||_, cond}
 use Prim.Native.Nat.{ℕ, _+_, _*_}
 use lib.Dec.{eqb, leb}
