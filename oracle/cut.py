@@ -197,6 +197,26 @@ def assembly(text, name):
     )
 
 
+def threshold(text, name):
+    """The lines of silk_find_pitch_lags_fix that find the second threshold, as a
+    function of their own: the same lines, cut out by their text. The four numbers
+    are arguments, so the path to where the wrapper keeps three of them goes."""
+    at = places(text, "let mut thrhld_q13: i32 =", 1, name)[0]
+    last = places(text, "thrhld_q13 = silk_sat16(thrhld_q13);", 1, name)[0]
+    body = text[line_start(text, at):line_end(text, last)]
+    path = "ps_enc.s_cmn."
+    places(body, path, 3, "the threshold's lines")
+    body = body.replace(path, "")
+    for need in ("pitch_lpc_order as i32", "speech_activity_q8)", "prev_signal_type >>", "input_tilt_q15)"):
+        places(body, need, 1, "the threshold's lines")
+    if len(body.split("\n")) > 11 or body.count(";") != 6 or "ps_enc" in body:
+        die("%s: the threshold's lines are not six steps" % name)
+    return (
+        "\npub fn find_threshold(pitch_lpc_order: usize, speech_activity_q8: i32, prev_signal_type: i32, "
+        "input_tilt_q15: i32) -> i32 {\n%s        thrhld_q13\n}\n" % body
+    )
+
+
 # Where the searching copy of the analyser tells what it sees: the text of a
 # line, how often it occurs, what is added before (or after) it.
 PROBES = [
@@ -249,9 +269,10 @@ def main():
     texts["sigproc_fix"] = sigproc(texts["sigproc_fix"], "sigproc_fix")
     core = texts["pitch_analysis"]
     core = cut_line(core, "use crate::silk::structs::*;", "pitch_analysis")
+    found = threshold(core, "pitch_analysis")
     core = cut_function(core, "pub fn silk_find_pitch_lags_fix(", "pitch_analysis")
     ends = assembly(core, "pitch_analysis")
-    texts["pitch_analysis"] = core + ends
+    texts["pitch_analysis"] = core + ends + found
     # A second copy, told apart by its name, that reports on its way; it is used
     # to search for frames and never to answer.
     texts["pitch_probe"] = with_probes(core, "pitch_probe")

@@ -8,8 +8,9 @@ use crate::silk::resampler::*;
 use crate::silk::sigproc_fix::*;
 use crate::silk::sort::silk_insertion_sort_decreasing_int16;
 
+/// Records and how many of each group.
 #[derive(Default)]
-struct List {
+pub struct List {
     bytes: Vec<u8>,
     counts: Vec<(String, usize)>,
 }
@@ -19,7 +20,7 @@ impl List {
         self.bytes.extend(n.to_le_bytes());
     }
 
-    fn i32s(&mut self, ns: &[i32]) {
+    pub fn i32s(&mut self, ns: &[i32]) {
         ns.iter().for_each(|&n| self.i32(n));
     }
 
@@ -27,14 +28,14 @@ impl List {
         ns.iter().for_each(|n| self.bytes.extend(n.to_le_bytes()));
     }
 
-    fn count(&mut self, group: &str) {
+    pub fn count(&mut self, group: &str) {
         match self.counts.last_mut() {
             Some((name, n)) if name == group => *n += 1,
             _ => self.counts.push((group.to_string(), 1)),
         }
     }
 
-    fn done(self, name: &str) -> Vec<u8> {
+    pub fn done(self, name: &str) -> Vec<u8> {
         for (group, n) in &self.counts {
             eprintln!("{name} {group}: {n}");
         }
@@ -47,7 +48,7 @@ impl List {
 const MIN: i32 = i32::MIN;
 const MAX: i32 = i32::MAX;
 
-const LIMITS: [i32; 30] = [
+pub const LIMITS: [i32; 30] = [
     0,
     1,
     -1,
@@ -90,7 +91,7 @@ fn clz_frac(a: i32) -> i32 {
     lz * 256 + frac
 }
 
-const WORD_OPS: [(&str, fn(i32, i32, i32) -> i32); 24] = [
+const WORD_OPS: [(&str, fn(i32, i32, i32) -> i32); 25] = [
     ("smulwb", |a, b, _| silk_smulwb(a, b)),
     ("smlawb", silk_smlawb),
     ("smulbb", |a, b, _| silk_smulbb(a, b)),
@@ -115,6 +116,7 @@ const WORD_OPS: [(&str, fn(i32, i32, i32) -> i32); 24] = [
     ("wrapping_sub", |a, b, _| a.wrapping_sub(b)),
     ("wrapping_mul", |a, b, _| a.wrapping_mul(b)),
     ("rotate_right", |a, b, _| a.rotate_right(b as u32)),
+    ("smlabb", silk_smlabb),
 ];
 
 /// The cases (a, b, c) of one operation: the worked ones, limits crossed with
@@ -194,7 +196,7 @@ fn word_cases(op: usize, r: &mut Random) -> Vec<[i32; 3]> {
             cases.extend(LIMITS.map(|a| [a, 0, 14]));
             cases.extend((0..=31).map(|q| [r.sized(), 0, q]));
         }
-        1 => {
+        1 | 24 => {
             for a in [0, 1, -1, MAX, MIN] {
                 for b in LIMITS {
                     let few = [0, 1, -1, 179, -25727, 32767, 32768, -32768, 65535, MAX, MIN];

@@ -1,4 +1,4 @@
--- An answer in numbers: the number of the case (a verdict's 0, 1, 2; a refusal's 1 to 10, or 0 where nothing is refused) and, where that is 0, the values that
+-- An answer in numbers: the number of the case (a verdict's 0, 1, 2; a refusal's 1 to 11, or 0 where nothing is refused) and, where that is 0, the values that
 -- come with it. A call that answers an enum says with it which case stands for which number and values.
 use mathlib.Core.Bool.{cond}
 use mathlib.Core.List.{List, [], _∷_}

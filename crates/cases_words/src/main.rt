@@ -26,6 +26,7 @@ use silk_macros::silk_mul;
 use silk_macros::silk_rshift;
 use silk_macros::silk_rshift_round;
 use silk_macros::silk_sat16;
+use silk_macros::silk_smlabb;
 use silk_macros::silk_smlawb;
 use silk_macros::silk_smmul;
 use silk_macros::silk_smulbb;
@@ -36,7 +37,7 @@ use zint::wrapping_add_i32;
 use zint::wrapping_mul_i32;
 use zint::wrapping_sub_i32;
 
-// Operations 0 to 4 and 20 to 22: products and sums.
+// Operations 0 to 4, 20 to 22 and 24: products and sums.
 fn product(op: i32, a: i32, b: i32, c: i32) -> i32 {
     if op == 0 {
         return silk_smulwb(a, b);
@@ -58,6 +59,9 @@ fn product(op: i32, a: i32, b: i32, c: i32) -> i32 {
     }
     if op == 21 {
         return wrapping_sub_i32(a, b);
+    }
+    if op == 24 {
+        return silk_smlabb(a, b, c);
     }
     wrapping_mul_i32(a, b)
 }
@@ -174,7 +178,7 @@ fn agrees(bytes: &[u8], at: usize, op: i32) -> bool {
     if op == 17 || op == 18 {
         return clz_agrees(op, a, said);
     }
-    if op < 5 || (op >= 20 && op < 23) {
+    if op < 5 || op == 24 || (op >= 20 && op < 23) {
         product(op, a, b, c) == said
     } else {
         shifted(op, a, b, c) == said
@@ -220,6 +224,7 @@ fn replay_all(bytes: &[u8]) {
     replay(bytes, 21, b"wrapping_sub");
     replay(bytes, 22, b"wrapping_mul");
     replay(bytes, 23, b"rotate_right");
+    replay(bytes, 24, b"silk_smlabb");
 }
 
 fn main() {

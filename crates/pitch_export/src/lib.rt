@@ -1,11 +1,14 @@
-// The frame call for programs in C and Rust, on numbers and slices.
+// The frame call and the threshold call for programs in C and Rust, on numbers and slices.
 ghost use mathlib.Core.Path.{_≡_};
 ghost use Rattle.silk_pitch_analysis.specs.Frame.{verdict-numbers};
 ghost use Rattle.pitch_export.specs.Export.{export-settings, lent-numbers, exported, export-call};
+ghost use Rattle.pitch_export.specs.ThresholdExport.{threshold-exported, export-threshold-call};
 use pitch_settings::Settings;
 use silk_pitch_analysis::FrameAnswer;
 use silk_pitch_analysis::Verdict;
 use silk_pitch_analysis::silk_pitch_analysis_core;
+use speech_threshold::ThresholdAnswer;
+use speech_threshold::speech_threshold;
 
 // Writes the four numbers of a verdict.
 fn put_verdict(
@@ -71,6 +74,27 @@ pub extern "C" fn pitch_frame(
         FrameAnswer::Refused(no) => no,
         FrameAnswer::Analysed(v) => {
             put_verdict(v, verdict, index, contour, correlation);
+            0
+        }
+    }
+}
+
+// The threshold call for C and Rust: 0, with the threshold written, which is the thres2 of `pitch_frame`; or 11, where one of the four numbers leaves its range, with nothing written.
+#[no_mangle]
+pub extern "C" fn pitch_threshold(
+    order: i32,
+    activity: i32,
+    signal_type: i32,
+    tilt: i32,
+    threshold: &mut i32,
+) -> usize
+    ensures { λ r. ⌜ threshold-exported r (now (threshold .exit)) ≡ export-threshold-call order activity «signal_type» tilt (now (threshold .entry)) ⌝ }
+{
+    let answer = speech_threshold(order, activity, signal_type, tilt);
+    match answer {
+        ThresholdAnswer::Refused(no) => no,
+        ThresholdAnswer::Threshold(value) => {
+            *threshold = value;
             0
         }
     }
