@@ -4,7 +4,11 @@
 use crate::frame::{Asked, Row, Settings};
 use crate::kinds::{any_previous, plain};
 use crate::random::Random;
-use crate::track::{frames_in, left_by, random_settings, recording, rows_after, with_zero_divisor};
+use crate::threshold::{RANGES, Speech, beside};
+use crate::track::{
+    Prev, TrackSettings, frames_in, random_settings, recording, rows_after, wavering,
+    with_zero_divisor,
+};
 
 const MOST_FRAMES: u64 = 4096;
 
@@ -25,29 +29,48 @@ pub const WHOLE_TRACK: u8 = 16;
 pub const HOLDS_A_FRAME: u8 = 17;
 pub const REFUSED_SETTINGS: u8 = 18;
 pub const PREVIOUS: u8 = 19;
+pub const SPEECH_AT_ONCE: u8 = 20;
+pub const SPEECH_HOPS: u8 = 21;
+pub const SPEECH_ANY_CUTS: u8 = 22;
+pub const AT_THRESHOLD: u8 = 23;
+pub const SPEECH_ZERO_DIVISOR: u8 = 24;
+pub const REFUSED_NUMBERS: u8 = 25;
+pub const PREVIOUS_TYPE: u8 = 26;
+pub const SPEECH_SHORT_TABLE: u8 = 27;
 
 /// A state as a call is handed it: any numbers at all.
 #[derive(Clone)]
 pub struct State {
     pub asked: Asked,
+    /// What its thresholds are found from, if they are.
+    pub speech: Option<Speech>,
     pub frames: u64,
     pub count: u64,
-    pub lag: i32,
-    pub correlation: i32,
+    pub prev: Prev,
     /// The first of the places for samples held.
     pub held: Vec<i16>,
 }
 
 impl State {
-    pub fn fresh(s: &Settings) -> State {
+    pub fn fresh(k: impl Into<TrackSettings>) -> State {
+        let k = k.into();
         State {
-            asked: Asked::of(s),
+            asked: Asked::of(&k.stored),
+            speech: k.speech,
             frames: 0,
             count: 0,
-            lag: 0,
-            correlation: 0,
+            prev: Prev::default(),
             held: Vec::new(),
         }
+    }
+
+    /// The track's settings, or refusal 1, 2, 3 or 11.
+    pub fn accepted(&self) -> Result<TrackSettings, u32> {
+        let stored = self.asked.accepted()?;
+        if let Some(m) = self.speech {
+            m.threshold(self.prev.signal_type)?;
+        }
+        Ok(TrackSettings { stored, speech: self.speech })
     }
 }
 
@@ -68,7 +91,7 @@ pub struct Deliveries {
 /// what its last row left, and the samples that it holds, with which J begins.
 struct Paper<'a> {
     from: &'a State,
-    settings: Result<Settings, u32>,
+    settings: Result<TrackSettings, u32>,
     whole_rows: u64,
     joined: Vec<i16>,
     accepted: bool,
@@ -76,10 +99,10 @@ struct Paper<'a> {
 
 impl<'a> Paper<'a> {
     fn new(from: &'a State, numbers: usize) -> Paper<'a> {
-        let settings = from.asked.accepted();
+        let settings = from.accepted();
         let count = usize::try_from(from.count).unwrap();
-        if let Ok(s) = settings {
-            assert!(count >= s.samples() || count <= from.held.len());
+        if let Ok(k) = settings {
+            assert!(count >= k.stored.samples() || count <= from.held.len());
         }
         let joined = from.held[..count.min(from.held.len())].to_vec();
         Paper { from, settings, whole_rows: numbers as u64 / 8, joined, accepted: false }
@@ -91,7 +114,7 @@ impl<'a> Paper<'a> {
 
     fn refusal(&self, d: usize) -> Option<u32> {
         let s = match &self.settings {
-            Ok(s) => s,
+            Ok(k) => &k.stored,
             Err(no) => return Some(*no),
         };
         let length = self.joined.len().max(self.from.count as usize);
@@ -118,9 +141,7 @@ impl<'a> Paper<'a> {
 
     fn rows(&self) -> Vec<Row> {
         match &self.settings {
-            Ok(s) if self.accepted => {
-                rows_after((self.from.lag, self.from.correlation), s, &self.joined)
-            }
+            Ok(k) if self.accepted => rows_after(self.from.prev, k, &self.joined),
             _ => Vec::new(),
         }
     }
@@ -129,7 +150,7 @@ impl<'a> Paper<'a> {
     /// nothing, what it claims and all of its places that are known.
     fn state(&self) -> (u64, u64, Vec<i16>) {
         match &self.settings {
-            Ok(s) if self.accepted => {
+            Ok(TrackSettings { stored: s, .. }) if self.accepted => {
                 let held = &self.joined[frames_in(s, self.joined.len()) * s.hop()..];
                 (self.frames(s, self.joined.len()), held.len() as u64, held.to_vec())
             }
@@ -137,10 +158,10 @@ impl<'a> Paper<'a> {
         }
     }
 
-    fn left(&self, rows: &[Row]) -> (i32, i32) {
+    fn left(&self, rows: &[Row]) -> Prev {
         match (&self.settings, rows.last()) {
-            (Ok(s), Some(row)) => left_by(s, row),
-            _ => (self.from.lag, self.from.correlation),
+            (Ok(k), Some(row)) => Prev::after(&k.stored, row),
+            _ => self.from.prev,
         }
     }
 }
@@ -180,6 +201,8 @@ pub struct Told {
     pub record: Vec<u8>,
     pub numbers: Vec<u32>,
     pub rows: Vec<Row>,
+    /// J at the end.
+    pub joined: Vec<i16>,
 }
 
 impl Deliveries {
@@ -204,12 +227,12 @@ impl Deliveries {
 
     fn head(&self, out: &mut Bytes) {
         let (s, a) = (&self.state, &self.state.asked);
-        let start = if self.started { a.accepted().err().unwrap_or(0) } else { 0 };
+        let start = if self.started { s.accepted().err().unwrap_or(0) } else { 0 };
         out.0.extend([self.started as u8, start as u8]);
         [a.rate, a.nb, a.complexity].iter().for_each(|&n| out.long(n));
         [a.thres1, a.thres2].iter().for_each(|&n| out.word(n));
         [s.frames, s.count].iter().for_each(|&n| out.long(n));
-        [s.lag, s.correlation].iter().for_each(|&n| out.word(n));
+        [s.prev.lag, s.prev.correlation].iter().for_each(|&n| out.word(n));
     }
 
     pub fn told(&self) -> Told {
@@ -219,7 +242,7 @@ impl Deliveries {
         let numbers = self.said(&mut paper, &mut said);
         let rows = paper.rows();
         let (_, _, held) = paper.state();
-        let (lag, correlation) = paper.left(&rows);
+        let left = paper.left(&rows);
         self.head(&mut body);
         let listed = &self.state.held;
         let sizes = [
@@ -231,13 +254,19 @@ impl Deliveries {
             held.len(),
         ];
         sizes.iter().for_each(|&n| body.size(n));
-        [lag, correlation].iter().for_each(|&n| body.word(n));
+        [left.lag, left.correlation].iter().for_each(|&n| body.word(n));
+        let m = self.state.speech.unwrap_or(Speech { order: 0, activity: 0, tilt: 0 });
+        let kind = self.state.speech.is_some() as i32;
+        let before = self.state.prev.signal_type;
+        [kind, m.order, m.activity, m.tilt, before, left.signal_type]
+            .iter()
+            .for_each(|&n| body.word(n));
         body.samples(listed);
         body.samples(&self.samples);
         body.0.extend(said.0);
         rows.iter().flatten().for_each(|&n| body.word(n));
         body.samples(&held);
-        Told { record: record(self.kind, &body.0), numbers, rows }
+        Told { record: record(self.kind, &body.0), numbers, rows, joined: paper.joined }
     }
 }
 
@@ -275,17 +304,17 @@ pub fn any_cuts(n: usize, s: &Settings, r: &mut Random) -> Vec<usize> {
 /// A freshly started track.
 pub fn started(
     kind: u8,
-    s: &Settings,
+    k: impl Into<TrackSettings>,
     samples: Vec<i16>,
     cuts: Vec<usize>,
     numbers: usize,
 ) -> Deliveries {
-    Deliveries { kind, started: true, state: State::fresh(s), numbers, samples, cuts }
+    Deliveries { kind, started: true, state: State::fresh(k), numbers, samples, cuts }
 }
 
 /// A state of so many frames that holds these samples.
-pub fn holding(s: &Settings, frames: u64, held: Vec<i16>) -> State {
-    State { frames, count: held.len() as u64, held, ..State::fresh(s) }
+pub fn holding(k: impl Into<TrackSettings>, frames: u64, held: Vec<i16>) -> State {
+    State { frames, count: held.len() as u64, held, ..State::fresh(k) }
 }
 
 /// A state that is handed in.
@@ -299,12 +328,16 @@ pub fn handed(
     Deliveries { kind, started: false, state, numbers, samples, cuts }
 }
 
-/// What a last row can have left, and what it cannot.
+/// What a last row can have left, and what it cannot; a type that is judged stays in range.
 pub fn any_left(state: &mut State, s: &Settings, r: &mut Random) {
     let mut f = plain(*s, Vec::new());
     any_previous(&mut f, r);
-    state.lag = f.prev_lag;
-    state.correlation = f.prev_corr;
+    let any = r.sized();
+    let signal_type = match state.speech {
+        None => r.pick(&[0, 1, 2, 3, -1, any]),
+        Some(_) => r.below(3) as i32,
+    };
+    state.prev = Prev { lag: f.prev_lag, correlation: f.prev_corr, signal_type };
 }
 
 /// A length of a table with so many whole rows.
@@ -322,15 +355,16 @@ pub fn any_length(s: &Settings, r: &mut Random) -> usize {
 }
 
 /// Any numbers where none is accepted, or where few are.
-fn odd_state(s: &Settings, r: &mut Random) -> State {
+fn odd_state(k: &TrackSettings, r: &mut Random) -> State {
     let huge = [1 << 31, 1 << 32, 1 << 62, (1 << 62) + 1, 1 << 63, u64::MAX - 1, u64::MAX];
+    let s = &k.stored;
     let n = s.samples() as u64;
     let held = recording(s, 640, r);
     let (any, much) = (r.below(4096) as u64, r.pick(&huge));
     let frames = r.pick(&[0, 1, 4095, 4096, 4097, any, any, much]);
     let (any, much) = (n + r.below(2000) as u64, r.pick(&huge));
     let count = r.pick(&[n - 1, n, n + 1, 639, 640, 641, any, much]);
-    let mut state = State { frames, count, held, ..State::fresh(s) };
+    let mut state = State { frames, count, held, ..State::fresh(k) };
     any_left(&mut state, s, r);
     state
 }
@@ -347,54 +381,90 @@ fn with_odd_settings(mut state: State, r: &mut Random) -> State {
     state
 }
 
+/// One of the four numbers of the threshold out of its range: order, activity, type, tilt.
+pub fn with_odd_number(mut state: State, place: usize, odd: i32) -> State {
+    let m = state.speech.as_mut().unwrap();
+    match place {
+        0 => m.order = odd,
+        1 => m.activity = odd,
+        2 => state.prev.signal_type = odd,
+        _ => m.tilt = odd,
+    }
+    state
+}
+
+/// Settings or numbers of the threshold, or both, that are refused.
+fn refused_state(k: &TrackSettings, r: &mut Random) -> State {
+    let mut state = odd_state(k, r);
+    let numbers = k.speech.is_some() && !r.chance(3);
+    if numbers {
+        for _ in 0..1 + r.below(2) {
+            let place = r.below(4);
+            state = with_odd_number(state, place, beside(RANGES[place], r));
+        }
+    }
+    if !numbers || r.chance(3) { with_odd_settings(state, r) } else { state }
+}
+
+/// Settings of either kind, and samples that suit them.
+fn any_track(s: &Settings, n: usize, r: &mut Random) -> (TrackSettings, Vec<i16>) {
+    if r.chance(2) {
+        return (s.into(), recording(s, n, r));
+    }
+    let k = TrackSettings::from_speech(s, Speech::random(r));
+    let x = if r.chance(4) { recording(s, n, r) } else { wavering(s, n, r) };
+    (k, x)
+}
+
 fn random_deliveries(r: &mut Random) -> Deliveries {
     let s = random_settings(r);
-    let x = recording(&s, any_length(&s, r), r);
+    let n = any_length(&s, r);
+    let (k, x) = any_track(&s, n, r);
+    // the kind for a fixed threshold, and the one for the speech's
+    let kind = |fixed: u8, speech: u8| if k.speech.is_some() { speech } else { fixed };
     let cuts = any_cuts(x.len(), &s, r);
     let frames = frames_in(&s, x.len());
     match r.below(20) {
-        0 => {
-            let state = with_odd_settings(odd_state(&s, r), r);
-            handed(
-                REFUSED_SETTINGS,
-                State { count: r.below(240) as u64, ..state },
-                x,
-                cuts,
-                frames * 8,
-            )
+        0 | 1 => {
+            let state = State { count: r.below(240) as u64, ..refused_state(&k, r) };
+            handed(kind(REFUSED_SETTINGS, REFUSED_NUMBERS), state, x, cuts, frames * 8)
         }
-        1 | 2 => {
+        2 => {
             let numbers = r.below(NUMBERS + 1);
-            handed(HOLDS_A_FRAME, odd_state(&s, r), x, cuts, numbers)
+            handed(HOLDS_A_FRAME, odd_state(&k, r), x, cuts, numbers)
         }
         3 | 4 => {
             let held = recording(&s, r.below(s.samples()), r);
             let first = (4096 + r.below(3) - 1 - r.below(frames + 1).min(4095)) as u64;
             let rows = 4096 - r.below(3);
-            handed(LONG_TRACK, holding(&s, first, held), x, cuts, with_rows(rows, r))
+            handed(LONG_TRACK, holding(&k, first, held), x, cuts, with_rows(rows, r))
         }
         5..8 => {
             let first = r.below(4080 - frames);
             let held = recording(&s, r.below(s.samples()), r);
             let then = first + frames_in(&s, held.len() + x.len());
-            let mut state = holding(&s, first as u64, held);
+            let mut state = holding(&k, first as u64, held);
             any_left(&mut state, &s, r);
             let rows = (then + r.below(4)).saturating_sub(r.below(2));
-            handed(PREVIOUS, state, x, cuts, with_rows(rows, r))
+            handed(kind(PREVIOUS, PREVIOUS_TYPE), state, x, cuts, with_rows(rows, r))
         }
         8..10 => {
             let rows = r.below(frames + 1);
-            started(SHORT_TABLE, &s, x, cuts, with_rows(rows, r))
+            started(kind(SHORT_TABLE, SPEECH_SHORT_TABLE), &k, x, cuts, with_rows(rows, r))
         }
         10..12 => {
-            let s = Settings { rate: 12, ..s };
-            let n = any_length(&s, r);
-            let x = with_zero_divisor(&s, r.below(5), n, r);
-            let cuts = any_cuts(x.len(), &s, r);
-            let rows = frames_in(&s, x.len()) + r.below(3);
-            started(ZERO_DIVISOR, &s, x, cuts, with_rows(rows, r))
+            let stored = Settings { rate: 12, ..k.stored };
+            let n = any_length(&stored, r);
+            let x = with_zero_divisor(&stored, r.below(5), n, r);
+            let cuts = any_cuts(x.len(), &stored, r);
+            let rows = frames_in(&stored, x.len()) + r.below(3);
+            let kind = kind(ZERO_DIVISOR, SPEECH_ZERO_DIVISOR);
+            started(kind, &TrackSettings { stored, ..k }, x, cuts, with_rows(rows, r))
         }
-        _ => started(ANY_CUTS, &s, x, cuts, with_rows(frames + r.below(3), r)),
+        _ => {
+            let rows = frames + r.below(3);
+            started(kind(ANY_CUTS, SPEECH_ANY_CUTS), &k, x, cuts, with_rows(rows, r))
+        }
     }
 }
 

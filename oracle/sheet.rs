@@ -36,7 +36,7 @@ pub fn bytes(s: &Settings, rows: &[Row]) -> Vec<u8> {
 pub fn sheet_write(b: &[u8]) -> Vec<u8> {
     match read_track(b) {
         Err(no) => refused(no).into_bytes(),
-        Ok((s, x)) => bytes(&s, &rows(&s, &x)),
+        Ok((s, x)) => bytes(&s, &rows(&(&s).into(), &x)),
     }
 }
 

@@ -90,6 +90,12 @@ pub fn times(a: &[i16], up: i64, down: i64) -> Vec<i16> {
     a.iter().map(|&p| clip(p as i64 * up / down)).collect()
 }
 
+/// So many 64ths of a period that repeats, and noise for the rest.
+pub fn mixture(n: usize, lag: usize, share: i64, bits: u32, r: &mut Random) -> Vec<i16> {
+    let (a, b) = (repeated(n, lag, bits, r), noise(n, bits, r));
+    sum(&times(&a, share, 64), &times(&b, 64 - share, 64))
+}
+
 /// Something like whitened speech: pulses, a little noise, a swelling height.
 pub fn voice(n: usize, lag: usize, r: &mut Random) -> Vec<i16> {
     let height = 1 << r.between(5, 14);

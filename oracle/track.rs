@@ -5,38 +5,95 @@ use crate::frame::{Frame, Row, Settings, analyse, le16s, row_text};
 use crate::kinds::{all_settings, zero_known};
 use crate::random::Random;
 use crate::signals;
+use crate::threshold::Speech;
 
 const HEAD: usize = 11;
-const MOST_FRAMES: usize = 1024;
+/// The greatest count of frames that the programs take.
+pub const MOST_FRAMES: usize = 1024;
 
 /// F(n): the frames in n samples.
 pub fn frames_in(s: &Settings, n: usize) -> usize {
     if n < s.samples() { 0 } else { 1 + (n - s.samples()) / s.hop() }
 }
 
-/// The rows of the samples x after a row that left this lag and correlation:
-/// each frame is given the last row's lag of its last subframe and its
-/// correlation.
-pub fn rows_after((mut prev_lag, mut prev_corr): (i32, i32), s: &Settings, x: &[i16]) -> Vec<Row> {
+/// A track's settings: those that its sheet stores, and what its second thresholds are found
+/// from, if they are; thres2 is 0 then.
+#[derive(Clone, Copy)]
+pub struct TrackSettings {
+    pub stored: Settings,
+    pub speech: Option<Speech>,
+}
+
+impl TrackSettings {
+    pub fn from_speech(s: &Settings, speech: Speech) -> TrackSettings {
+        TrackSettings { stored: Settings { thres2: 0, ..*s }, speech: Some(speech) }
+    }
+
+    /// The settings of a frame after a signal of this type.
+    pub fn of_row(&self, signal_type: i32) -> Settings {
+        match self.speech {
+            None => self.stored,
+            Some(m) => Settings { thres2: m.threshold(signal_type).unwrap(), ..self.stored },
+        }
+    }
+}
+
+impl From<&Settings> for TrackSettings {
+    fn from(s: &Settings) -> TrackSettings {
+        TrackSettings { stored: *s, speech: None }
+    }
+}
+
+impl From<&TrackSettings> for TrackSettings {
+    fn from(k: &TrackSettings) -> TrackSettings {
+        *k
+    }
+}
+
+/// What a row leaves to the next: the lag of its last subframe, its correlation and the type of
+/// its signal, 2 where it is voiced and else 1. Before the first row all three are 0.
+#[derive(Clone, Copy, Default, PartialEq, Eq, Debug)]
+pub struct Prev {
+    pub lag: i32,
+    pub correlation: i32,
+    pub signal_type: i32,
+}
+
+impl Prev {
+    pub fn after(s: &Settings, row: &Row) -> Prev {
+        Prev {
+            lag: row[4 + s.nb - 1],
+            correlation: row[3],
+            signal_type: if row[0] == 0 { 2 } else { 1 },
+        }
+    }
+
+    /// The row of a frame that this stands before.
+    pub fn next_row(&self, s: &Settings, x: &[i16]) -> Row {
+        let Prev { lag: prev_lag, correlation: prev_corr, .. } = *self;
+        analyse(&Frame { settings: *s, prev_lag, prev_corr, x: x.to_vec() })
+    }
+}
+
+/// Frame i of x.
+pub fn window<'a>(s: &Settings, x: &'a [i16], i: usize) -> &'a [i16] {
+    &x[i * s.hop()..i * s.hop() + s.samples()]
+}
+
+/// The rows of the samples x, where this stands before the first.
+pub fn rows_after(mut prev: Prev, k: &TrackSettings, x: &[i16]) -> Vec<Row> {
     let mut all = Vec::new();
-    for i in 0..frames_in(s, x.len()) {
-        let at = i * s.hop();
-        let x = x[at..at + s.samples()].to_vec();
-        let row = analyse(&Frame { settings: *s, prev_lag, prev_corr, x });
-        (prev_lag, prev_corr) = left_by(s, &row);
+    for i in 0..frames_in(&k.stored, x.len()) {
+        let row = prev.next_row(&k.of_row(prev.signal_type), window(&k.stored, x, i));
+        prev = Prev::after(&k.stored, &row);
         all.push(row);
     }
     all
 }
 
-/// The lag of a row's last subframe, and its correlation.
-pub fn left_by(s: &Settings, row: &Row) -> (i32, i32) {
-    (row[4 + s.nb - 1], row[3])
-}
-
-/// The rows of a whole track: 0 and 0 stand before the first.
-pub fn rows(s: &Settings, x: &[i16]) -> Vec<Row> {
-    rows_after((0, 0), s, x)
+/// The rows of a whole track.
+pub fn rows(k: &TrackSettings, x: &[i16]) -> Vec<Row> {
+    rows_after(Prev::default(), k, x)
 }
 
 /// The program's input: settings and samples, or the number it is refused with.
@@ -60,18 +117,21 @@ pub fn rows_text(rows: &[Row], nb: usize) -> String {
     rows.iter().enumerate().map(|(i, row)| format!("{i} {}\n", row_text(row, nb))).collect()
 }
 
+/// The frames and the samples left over, then the rows.
+pub fn table_text(k: &TrackSettings, x: &[i16]) -> String {
+    let (s, rows) = (k.stored, rows(k, x));
+    let left = match rows.len() {
+        0 => x.len(),
+        n => x.len() - ((n - 1) * s.hop() + s.samples()),
+    };
+    format!("{} {left}\n{}", rows.len(), rows_text(&rows, s.nb))
+}
+
 /// The program `track`.
 pub fn track(b: &[u8]) -> String {
     match read(b) {
         Err(no) => refused(no),
-        Ok((s, x)) => {
-            let rows = rows(&s, &x);
-            let left = match rows.len() {
-                0 => x.len(),
-                n => x.len() - ((n - 1) * s.hop() + s.samples()),
-            };
-            format!("{} {left}\n{}", rows.len(), rows_text(&rows, s.nb))
-        }
+        Ok((s, x)) => table_text(&(&s).into(), &x),
     }
 }
 
@@ -100,6 +160,21 @@ pub fn recording(s: &Settings, n: usize, r: &mut Random) -> Vec<i16> {
             3 => vec![signals::any_height(r); piece],
             _ => signals::voice(piece, lag as usize, r),
         });
+    }
+    x.truncate(n);
+    x
+}
+
+/// Samples that waver between voiced and not: noise, periods over and over, and mixtures of both
+/// whose correlation is often near a threshold that is found from the speech.
+pub fn wavering(s: &Settings, n: usize, r: &mut Random) -> Vec<i16> {
+    let mut x: Vec<i16> = Vec::new();
+    while x.len() < n {
+        let piece = s.hop() / 2 + r.below(2 * s.samples());
+        let lag = r.between(2 * s.rate as i64, 18 * s.rate as i64) as usize;
+        let bits = 8 + r.below(8) as u32;
+        let near = r.between(20, 40);
+        x.extend(signals::mixture(piece, lag, r.pick(&[0, 64, near, near, near]), bits, r));
     }
     x.truncate(n);
     x

@@ -1,14 +1,17 @@
-//! The fixed list of tracks that the gate replays, by kind: inputs of the program
-//! `track` with the text for each, and lists of deliveries with what the track on
-//! paper says of each.
+//! The fixed list of tracks that the gate replays, by kind: inputs of the programs
+//! `track` and `track_options` with the text for each, and lists of deliveries with
+//! what the track on paper says of each. Tracks whose thresholds are found from the
+//! speech, and `track_options`, stand in speech_list.rs.
 
 use crate::deliveries::*;
 use crate::frame::Settings;
 use crate::kinds::all_settings;
+use crate::options::track_options;
 use crate::random::Random;
-use crate::track::{frames_in, random_settings, recording, track, with_zero_divisor, write};
+use crate::speech_list::{Depends, speech_kinds};
+use crate::track::{Prev, frames_in, random_settings, recording, track, with_zero_divisor, write};
 
-const KINDS: [&str; 20] = [
+const KINDS: [&str; 32] = [
     "text: every setting",
     "text: silence and noise",
     "text: zero divisors (12 kHz)",
@@ -29,22 +32,38 @@ const KINDS: [&str; 20] = [
     "deliveries: states that hold a frame or more (9)",
     "deliveries: refused settings (1, 2, 3)",
     "deliveries: any previous lag and correlation",
+    "speech: all at once",
+    "speech: hops",
+    "speech: cuts at random places, V after U after V",
+    "speech: a sum at the threshold, and one above",
+    "speech: zero divisors (12 kHz)",
+    "speech: refused numbers (11), with 1, 2, 3, 6, 9 and 7 beside",
+    "speech: states with each previous type",
+    "speech: refused lengths (6, 9, 7)",
+    "options text: every setting",
+    "options text: half input (10)",
+    "options text: refused settings (1, 2, 3, 11, 9)",
+    "options text: 1,024 frames and more (6)",
 ];
 
+/// The first kind that is a text of `track_options`.
+const OPTIONS: usize = 28;
+
 #[derive(Default)]
-struct FixedList {
+pub struct FixedList {
     bytes: Vec<u8>,
     counts: [usize; KINDS.len()],
     /// How often each number was said, 0 where there was no refusal.
-    numbers: [usize; 11],
+    numbers: [usize; 12],
     verdicts: [usize; 3],
+    depends: Depends,
 }
 
 impl FixedList {
-    /// An input of the program, `zeros` more bytes of 0 after it, and its text.
-    fn text(&mut self, kind: usize, input: &[u8], zeros: usize) {
+    /// An input of the kind's program, `zeros` more bytes of 0 after it, and its text.
+    pub fn text(&mut self, kind: usize, input: &[u8], zeros: usize) {
         let whole: Vec<u8> = input.iter().copied().chain(vec![0; zeros]).collect();
-        let text = track(&whole);
+        let text = if kind < OPTIONS { track(&whole) } else { track_options(&whole) };
         let no = text.strip_prefix("refused ").map_or(0, |no| no.trim().parse().unwrap());
         self.numbers[no] += 1;
         for (i, verdict) in ["V", "U", "Z"].iter().enumerate() {
@@ -59,8 +78,11 @@ impl FixedList {
         self.counts[kind] += 1;
     }
 
-    fn deliveries(&mut self, list: Deliveries) {
+    pub fn deliveries(&mut self, list: Deliveries) {
         let told = list.told();
+        if let Ok(k) = list.state.accepted() {
+            self.depends.weigh(&k, list.state.prev, &told.joined, &told.rows);
+        }
         told.numbers.iter().for_each(|&no| self.numbers[no as usize] += 1);
         told.rows.iter().for_each(|row| self.verdicts[row[0] as usize] += 1);
         self.bytes.extend(told.record);
@@ -69,7 +91,7 @@ impl FixedList {
 }
 
 /// The six pairs of rate and subframes, with complexities and thresholds by turns.
-fn all_sizes(r: &mut Random) -> Vec<Settings> {
+pub fn all_sizes(r: &mut Random) -> Vec<Settings> {
     let all = all_settings();
     (0..6).map(|i| Settings { thres2: r.pick(&[0, 800, 1500]), ..all[3 * i + i % 3] }).collect()
 }
@@ -287,14 +309,15 @@ fn bad_states(list: &mut FixedList, r: &mut Random) {
     for (place, values) in odd {
         for &value in values {
             let s = random_settings(r);
-            let mut bad = State { lag: 9, correlation: -9, ..holding(&s, 3, recording(&s, 50, r)) };
+            let prev = Prev { lag: 9, correlation: -9, signal_type: 5 };
+            let mut bad = State { prev, ..holding(&s, 3, recording(&s, 50, r)) };
             match place {
                 0 => bad.asked.rate = value,
                 1 => bad.asked.nb = value,
                 _ => bad.asked.complexity = value,
             }
             let start =
-                State { frames: 0, count: 0, lag: 0, correlation: 0, held: vec![], ..bad.clone() };
+                State { frames: 0, count: 0, prev: Prev::default(), held: vec![], ..bad.clone() };
             list.deliveries(Deliveries {
                 kind: REFUSED_SETTINGS,
                 started: true,
@@ -335,7 +358,7 @@ fn any_previous_values(list: &mut FixedList, r: &mut Random) {
 pub fn track_list() -> Vec<u8> {
     let mut list = FixedList::default();
     let mut r = Random::new(11);
-    let steps: [fn(&mut FixedList, &mut Random); 12] = [
+    let steps: [fn(&mut FixedList, &mut Random); 13] = [
         every_setting,
         thresholds,
         edges,
@@ -348,6 +371,7 @@ pub fn track_list() -> Vec<u8> {
         held_frames,
         bad_states,
         any_previous_values,
+        speech_kinds,
     ];
     steps.iter().for_each(|step| step(&mut list, &mut r));
     for (k, name) in KINDS.iter().enumerate() {
@@ -356,6 +380,7 @@ pub fn track_list() -> Vec<u8> {
     let said = list.numbers.iter().enumerate().filter(|(_, n)| **n > 0);
     let said: Vec<String> = said.map(|(no, n)| format!("{no}: {n}")).collect();
     eprintln!("track, how often each number was said: {}", said.join(", "));
+    list.depends.tell();
     let [v, u, z] = list.verdicts;
     let records: usize = list.counts.iter().sum();
     eprintln!("track: {records} records (rows {v} V, {u} U, {z} Z), {} bytes", list.bytes.len());

@@ -6,6 +6,7 @@ use Prim.Native.Nat.{ℕ, _+_, _-_, _≤_, min}
 use lib.ListN.{length, take, drop}
 use Rattle.cases_io.specs.Little.{u32-at}
 use Rattle.pitch_recording.specs.Recording.{recording-bytes}
+use Rattle.recording_head.specs.declared.Head.{Head}
 use Rattle.track_text.specs.Program.{longest-text, track-text}
 
 -- whether: a test that is true exactly where a fact holds
@@ -24,9 +25,9 @@ whole body size = size - from body + u32-at body 0
 abbrev pub held : List ℕ → ℕ → ℕ
 held body size = min (whole body size) recording-bytes
 
--- the text is within its room and the body, and it is the text of the input, whatever the bytes are that the program only counts
-pub record TextAgrees (body : List ℕ) (size : ℕ) : Type 0 where
+-- the text is within its room and the body, and it is the text of the input with this head, whatever the bytes are that the program only counts
+pub record TextAgrees (head : Head) (body : List ℕ) (size : ℕ) : Type 0 where
   pub fits : u32-at body 4 ≤ longest-text
   pub inside : from body ≤ size
   pub text : (rest : List ℕ) → length rest ≡ whole body size - held body size
-      → track-text (take (held body size) (drop (from body) body) ++ rest) ≡ take (u32-at body 4) (drop 8 body)
+      → track-text head (take (held body size) (drop (from body) body) ++ rest) ≡ take (u32-at body 4) (drop 8 body)

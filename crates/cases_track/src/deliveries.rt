@@ -2,6 +2,7 @@
 // whether the track is started (1) or its state handed in (0), and the number that starting says (a byte each);
 // rate, nb, complexity (8 bytes each), thresholds (4 each), frames done and samples held (8 each), previous lag and correlation (4 each);
 // the table's length, and how many of each list stand below: places, samples, deliveries, rows, places at the end (4 each); lag and correlation at the end (4 each);
+// whether the second threshold is fixed (0) or found from the speech (1), its order, activity and tilt, the previous type, and the type at the end (4 each);
 // the first of the state's places for samples, and the samples (2 each); the deliveries: length (4), number (1), frames done and samples held then (8 each);
 // the finished rows (8 numbers of 4); the first of the places at the end (2 each).
 ghost use mathlib.Core.Path.{_≡_};
@@ -21,12 +22,15 @@ use cases_io::usize_at;
 use pitch_recording::RECORDING_SAMPLES;
 use pitch_recording::sample_room;
 use pitch_settings::LONGEST_FRAME;
-use pitch_settings::Settings;
 use pitch_table::MOST_FRAMES;
 use pitch_table::ROW_SIZE;
 use pitch_track::Track;
 use track_paper::Prev;
 use track_paper::TrackAnswer;
+use track_settings::SecondThreshold;
+use track_settings::Speech;
+use track_settings::TrackSettings;
+use track_settings::stored_settings;
 use zint::wrapping_sub_i32;
 
 // What the places of a state hold that are not listed.
@@ -48,7 +52,7 @@ struct Chain {
 }
 
 fn lists_of(body: &[u8]) -> Lists {
-    let samples = skip(body, 90, 2 * u32_at(body, 62));
+    let samples = skip(body, 114, 2 * u32_at(body, 62));
     let deliveries = skip(body, samples, 2 * u32_at(body, 66));
     let rows = skip(body, deliveries, 21 * u32_at(body, 70));
     let places = skip(body, rows, 32 * u32_at(body, 74));
@@ -62,19 +66,39 @@ fn lists_of(body: &[u8]) -> Lists {
     }
 }
 
-fn settings_of(body: &[u8]) -> Settings {
-    settings_at(body, 2)
+// The second threshold: the fixed one, or found from the speech.
+fn second_of(body: &[u8]) -> SecondThreshold {
+    if i32_at(body, 90) == 0 {
+        return SecondThreshold::Fixed(i32_at(body, 30));
+    }
+    SecondThreshold::FromSpeech(Speech {
+        order: i32_at(body, 94),
+        activity: i32_at(body, 98),
+        tilt: i32_at(body, 102),
+    })
+}
+
+fn settings_of(body: &[u8]) -> TrackSettings {
+    let s = settings_at(body, 2);
+    TrackSettings {
+        rate: s.rate,
+        nb: s.nb,
+        complexity: s.complexity,
+        thres1: s.thres1,
+        thres2: second_of(body),
+    }
 }
 
 // The state that the body hands in.
 fn handed_in(body: &[u8]) -> Track {
     let mut held = [UNLISTED; LONGEST_FRAME];
     let n = least(u32_at(body, 62), LONGEST_FRAME);
-    load_i16s(body, 90, &mut held[..n]);
+    load_i16s(body, 114, &mut held[..n]);
     let settings = settings_of(body);
     let prev = Prev {
         lag: i32_at(body, 50),
         correlation: i32_at(body, 54),
+        signal: i32_at(body, 106),
     };
     Track {
         settings,
@@ -149,13 +173,33 @@ fn places_agree(body: &[u8], at: usize, t: Track) -> bool {
     same_i16s(body, at, &held[..n])
 }
 
+// Whether a second threshold is as told.
+fn second_agrees(body: &[u8], t: SecondThreshold) -> bool {
+    match t {
+        SecondThreshold::Fixed(thres2) => i32_at(body, 90) == 0 && thres2 == i32_at(body, 30),
+        SecondThreshold::FromSpeech(m) => {
+            i32_at(body, 90) == 1
+                && m.order == i32_at(body, 94)
+                && m.activity == i32_at(body, 98)
+                && m.tilt == i32_at(body, 102)
+        }
+    }
+}
+
+// Whether the settings are as told; where the threshold is found from the speech, 0 is told for the stored one.
+fn settings_agree(body: &[u8], k: TrackSettings) -> bool {
+    let t = k.thres2;
+    same_settings(stored_settings(k), settings_at(body, 2)) && second_agrees(body, t)
+}
+
 // Whether the state at the end is as told, its places from `at` on.
 fn end_agrees(body: &[u8], at: usize, t: Track) -> bool {
-    let s = t.settings;
+    let k = t.settings;
     let prev = t.prev;
     prev.lag == i32_at(body, 82)
         && prev.correlation == i32_at(body, 86)
-        && same_settings(s, settings_of(body))
+        && prev.signal == i32_at(body, 110)
+        && settings_agree(body, k)
         && places_agree(body, at, t)
 }
 

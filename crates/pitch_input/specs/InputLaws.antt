@@ -20,9 +20,13 @@ number-front : (k : ℕ) (b r : List ℕ) (at : ℕ) → at + k ≤ length b →
 unfolding number-at
 number-front k b r at h = rw (drop-append-le at b r (omega arith), take-append-le k (drop at b) r (rw length-drop (omega arith)))
 
-signed-front : (b r : List ℕ) (at : ℕ) → at + 4 ≤ length b → signed-at (b ++ r) at ≡ signed-at b at
+pub signed-front : (b r : List ℕ) (at : ℕ) → at + 4 ≤ length b → signed-at (b ++ r) at ≡ signed-at b at
 unfolding signed-at
 signed-front b r at h = rw (number-front 4 b r at h)
+
+pub sample-front : (b r : List ℕ) (at : ℕ) → at + 2 ≤ length b → sample-at (b ++ r) at ≡ sample-at b at
+unfolding sample-at
+sample-front b r at h = rw (number-front 2 b r at h)
 
 pub settings-front : (b r : List ℕ) → head-size ≤ length b → input-settings (b ++ r) ≡ input-settings b
 unfolding input-settings

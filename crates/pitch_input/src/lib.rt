@@ -25,8 +25,8 @@ pub fn settings_in(bytes: &[u8]) -> Settings
     }
 }
 
-// The sample in the two bytes from `at` on.
-fn sample_at(bytes: &[u8], at: usize) -> i16
+// The signed number in the two bytes from `at` on, as a sample has them.
+pub fn sample_at(bytes: &[u8], at: usize) -> i16
     requires { ⌜ at + 2 ≤ length (now bytes) ⌝ }
     ensures { λ r. ⌜ r ≡ sample-at (now (bytes .entry)) at ⌝ }
 {

@@ -8,17 +8,25 @@ use native.Mathlib.Nat.{zero-add}
 use native.Mathlib.Omega.{arith}
 use borrow.Author.Tests.{lt-ltb, le-ltb, le-leb, lt-leb, eq-eqb, ne-eqb, ltb-false, eqb-true, eqb-false}
 use lib.Dec.{ltb, leb, eqb}
-use lib.IntN.{ℤ}
+use lib.IntN.{ℤ, pos}
 use lib.ListN.{length, take, replicate, length-append, length-replicate}
 use Rattle.lists.specs.Fill.{overwritten}
 use Rattle.lists.specs.PushLaws.{take-overwritten}
-use Rattle.pitch_input.specs.Input.{head-size, input-settings}
-use Rattle.pitch_input.specs.InputLaws.{settings-front, settings-small, length-samples}
+use Rattle.pitch_input.specs.InputLaws.{settings-small, length-samples}
 use Rattle.pitch_settings.specs.declared.Settings.{Settings}
 use Rattle.pitch_settings.specs.Settings.{settings-no, frame-length, hop-length}
 use Rattle.pitch_settings.specs.SettingsLaws.{accepted-settings}
+use Rattle.speech_threshold.specs.Threshold.{in-range, threshold-no}
+use Rattle.track_settings.specs.declared.SecondThreshold.{SecondThreshold}
+use Rattle.track_settings.specs.declared.SecondThreshold.the-variants.{Fixed, FromSpeech}
+use Rattle.track_settings.specs.declared.TrackSettings.{TrackSettings}
+use Rattle.track_settings.specs.TrackSettings.{stored-settings, second-no, track-settings-no}
+use Rattle.track_settings.specs.TrackSettingsLaws.{known}
 use Rattle.track_paper.specs.Paper.{F, paper-table}
 use Rattle.track_paper.specs.FramesLaws.{lt-or-le, fits, many}
+use Rattle.recording_head.specs.declared.Head.{Head}
+use Rattle.recording_head.specs.Head.{bytes-of-head, head-settings, head-known}
+use Rattle.recording_head.specs.HeadLaws.{head-short, head-front, known-front}
 use Rattle.pitch_recording.specs.declared.Recording.{Recording}
 use Rattle.pitch_recording.specs.declared.Recording.the-variants.{Taken, Refused}
 use Rattle.pitch_recording.specs.Recording.{program-frames, longest-hop, recording-samples, recording-bytes, samples-in, half-input, first-recording-refusal, recording-no, recording-answer, samples-after, TakeOutcome, take-outcome, take-call, recording-printed, table-after, printed-for}
@@ -59,61 +67,72 @@ module _ (s : Settings) (e : settings-no s ≡ 0) (n : ℕ) where
   few-samples h = ⊎-elim (λ (q : n < recording-samples). q) (λ (q : recording-samples ≤ n). absurd (omega (arith, too-many q))) (lt-or-le n recording-samples)
 
 -- ---- an input
-pub samples-count : (b : List ℕ) → length (samples-in b) ≡ (length b - head-size) / 2
+pub samples-count : (head : Head) (b : List ℕ) → length (samples-in head b) ≡ (length b - bytes-of-head head) / 2
 unfolding samples-in
-samples-count b = length-samples b head-size ((length b - head-size) / 2)
+samples-count head b = length-samples b (bytes-of-head head) ((length b - bytes-of-head head) / 2)
 
--- ---- the refusal's number, from the first bytes b and the count of those that follow
-module _ (b r : List ℕ) (more : ℕ) (rest : length r ≡ more) (full : 0 < more → recording-bytes ≤ length b) where
+-- as many bytes have too many samples after each head
+samples-over : (head : Head) (b : List ℕ) → recording-bytes ≤ length b → recording-samples ≤ length (samples-in head b)
+samples-over head b h = rw (samples-count head b) (omega (arith, head-short head))
+
+-- ---- the refusal's number, from the first bytes b, the head's size and the count of those that follow
+module _ (head : Head) (b r : List ℕ) (size more : ℕ) (sized : size ≡ bytes-of-head head) (rest : length r ≡ more) (full : 0 < more → recording-bytes ≤ length b) where
+  abbrev odd : Bool
+  odd = eqb ((length b - size + more % 2) % 2) 1
+
   whole : length (b ++ r) ≡ length b + more
   whole = length-append b r ∙ ap (λ (n : ℕ). length b + n) rest
 
-  pub no-short : length b < head-size → 10 ≡ recording-no (b ++ r)
+  pub no-short : length b < size → 10 ≡ recording-no head (b ++ r)
   unfolding recording-no first-recording-refusal half-input
   no-short h =
-      let l : length (b ++ r) < head-size =
-      ⊎-elim (λ (q : 0 < more). absurd (omega (arith, full q))) (λ (q : more ≤ 0). omega (arith, whole)) (lt-or-le 0 more) in
-      rw (lt-ltb (length (b ++ r)) head-size l)
+      let l : length (b ++ r) < bytes-of-head head =
+      ⊎-elim (λ (q : 0 < more). absurd (omega (arith, full q, head-short head))) (λ (q : more ≤ 0). omega (arith, whole)) (lt-or-le 0 more) in
+      rw (lt-ltb (length (b ++ r)) (bytes-of-head head) l)
 
-  module _ (enough : head-size ≤ length b) where
-    half-is : eqb ((length b - head-size + more % 2) % 2) 1 ≡ half-input (b ++ r)
+  module _ (enough : size ≤ length b) where
+    there : bytes-of-head head ≤ length b
+    there = omega arith
+
+    half-is : odd ≡ half-input head (b ++ r)
     unfolding half-input
     half-is =
-        let l : head-size ≤ length (b ++ r) = omega (arith, whole) in
-        let e : (length b - head-size + more % 2) % 2 ≡ (length (b ++ r) - head-size) % 2 = omega (arith, whole) in
-        rw (le-ltb (length (b ++ r)) head-size l, e)
+        let l : bytes-of-head head ≤ length (b ++ r) = omega (arith, whole) in
+        let e : (length b - size + more % 2) % 2 ≡ (length (b ++ r) - bytes-of-head head) % 2 = omega (arith, whole) in
+        rw (le-ltb (length (b ++ r)) (bytes-of-head head) l, e)
 
-    settings-is : settings-no (input-settings b) ≡ settings-no (input-settings (b ++ r))
-    settings-is = ap settings-no (sym (settings-front b r enough))
+    settings-is : track-settings-no (head-settings head b) (pos 0) ≡ track-settings-no (head-settings head (b ++ r)) (pos 0)
+    settings-is = ap (λ (k : TrackSettings). track-settings-no k (pos 0)) (sym (head-front b r head there))
 
     -- refused settings
-    pub no-wrong : (w : ℕ) → w ≡ settings-no (input-settings b) → (w ≡ 0 → ⊥) → first-recording-refusal (eqb ((length b - head-size + more % 2) % 2) 1) w false ≡ recording-no (b ++ r)
+    pub no-wrong : (w : ℕ) → w ≡ track-settings-no (head-settings head b) (pos 0) → (w ≡ 0 → ⊥) → first-recording-refusal odd w false true ≡ recording-no head (b ++ r)
     unfolding recording-no first-recording-refusal
     no-wrong w e h = rw (half-is, ← settings-is, ← e, ne-eqb w 0 h)
 
     -- more bytes than are at hand: too many frames
-    pub no-more : settings-no (input-settings b) ≡ 0 → 0 < more → first-recording-refusal (eqb ((length b - head-size + more % 2) % 2) 1) 0 true ≡ recording-no (b ++ r)
-    unfolding recording-no
+    pub no-more : track-settings-no (head-settings head b) (pos 0) ≡ 0 → 0 < more → first-recording-refusal odd 0 true true ≡ recording-no head (b ++ r)
+    unfolding recording-no first-recording-refusal
     no-more e h =
         let k = sym settings-is ∙ e in
-        let n : recording-samples ≤ length (samples-in (b ++ r)) = rw (samples-count (b ++ r)) (omega (arith, whole, full h)) in
-        rw (half-is, k, lt-ltb program-frames _ (too-many (input-settings (b ++ r)) k (length (samples-in (b ++ r))) n))
+        let n = samples-over head (b ++ r) (omega (arith, whole, full h)) in
+        rw (half-is, k, lt-ltb program-frames _ (too-many (stored-settings (head-settings head (b ++ r))) (known _ (pos 0) k) (length (samples-in head (b ++ r))) n))
 
     -- all bytes at hand
-    pub no-all : settings-no (input-settings b) ≡ 0 → more ≤ 0 → first-recording-refusal (eqb ((length b - head-size + more % 2) % 2) 1) 0 (ltb program-frames (F (input-settings b) ((length b - head-size) / 2))) ≡ recording-no (b ++ r)
+    pub no-all : track-settings-no (head-settings head b) (pos 0) ≡ 0 → more ≤ 0
+        → first-recording-refusal odd 0 (ltb program-frames (F (stored-settings (head-settings head b)) ((length b - size) / 2))) (head-known head b) ≡ recording-no head (b ++ r)
     unfolding recording-no
     no-all e h =
         let k = sym settings-is ∙ e in
-        let n : (length b - head-size) / 2 ≡ length (samples-in (b ++ r)) = omega (arith, samples-count (b ++ r), whole) in
-        rw (half-is, k, ← settings-front b r enough, n)
+        let n : (length b - size) / 2 ≡ length (samples-in head (b ++ r)) = omega (arith, samples-count head (b ++ r), whole) in
+        rw (half-is, k, ← head-front b r head there, ← known-front b r head there, n)
 
--- no refusal: none of the three
-first-none : (half : Bool) (wrong : ℕ) (long : Bool) → 0 ≡ first-recording-refusal half wrong long → (half ≡ false) × (wrong ≡ 0) × (long ≡ false)
+-- no refusal: none of the four
+first-none : (half : Bool) (wrong : ℕ) (long known : Bool) → 0 ≡ first-recording-refusal half wrong long known → (half ≡ false) × (wrong ≡ 0) × (long ≡ false)
 unfolding first-recording-refusal
-first-none true wrong long e = absurd (omega arith)
-first-none false wrong long e = by (eqb wrong 0) long refl e
+first-none true wrong long known e = absurd (omega arith)
+first-none false wrong long known e = by (eqb wrong 0) long refl e
   where
-    by : (w l : Bool) → eqb wrong 0 ≡ w → 0 ≡ cond w (cond l 6 0) wrong → (false ≡ false) × (wrong ≡ 0) × (l ≡ false)
+    by : (w l : Bool) → eqb wrong 0 ≡ w → 0 ≡ cond w (cond l 6 (cond known 0 9)) wrong → (false ≡ false) × (wrong ≡ 0) × (l ≡ false)
     by true true p q = absurd (omega arith)
     by true false p q = (refl, eqb-true wrong 0 p, refl)
     by false l p q = absurd (eqb-false wrong 0 p (sym q))
@@ -122,58 +141,72 @@ or-left : (a b : Bool) → (a || b) ≡ false → a ≡ false
 or-left true b e = e
 or-left false b e = refl
 
-not-half : (b : List ℕ) → half-input b ≡ false → head-size ≤ length b
+not-half : (head : Head) (b : List ℕ) → half-input head b ≡ false → bytes-of-head head ≤ length b
 unfolding half-input
-not-half b e = ltb-false (length b) head-size (or-left _ _ e)
+not-half head b e = ltb-false (length b) (bytes-of-head head) (or-left _ _ e)
 
 -- an input that is not refused
-pub record Ready (b : List ℕ) : Type 0 where
-  pub enough : head-size ≤ length b
-  pub known : settings-no (input-settings b) ≡ 0
-  pub few : F (input-settings b) (length (samples-in b)) ≤ program-frames
+pub record Ready (head : Head) (b : List ℕ) : Type 0 where
+  pub enough : bytes-of-head head ≤ length b
+  pub analysed : settings-no (stored-settings (head-settings head b)) ≡ 0
+  pub few : F (stored-settings (head-settings head b)) (length (samples-in head b)) ≤ program-frames
 
-pub ready : (b : List ℕ) → 0 ≡ recording-no b → Ready b
+pub ready : (head : Head) (b : List ℕ) → 0 ≡ recording-no head b → Ready head b
 unfolding recording-no
-ready b e =
-    let f = first-none _ _ _ e in
-    record { enough = not-half b (f .0); known = f .1; few = ltb-false program-frames _ (f .2) }
+ready head b e =
+    let f = first-none _ _ _ _ e in
+    record { enough = not-half head b (f .0); analysed = known _ (pos 0) (f .1); few = ltb-false program-frames _ (f .2) }
 
 -- an input that goes on past `recording-bytes` is refused, so the bytes at hand are all
-pub none-more : (b r : List ℕ) → (0 < length r → recording-bytes ≤ length b) → Ready (b ++ r) → r ≡ []
-none-more b [] h q = refl
-none-more b (x ∷ r) h q =
+pub none-more : (head : Head) (b r : List ℕ) → (0 < length r → recording-bytes ≤ length b) → Ready head (b ++ r) → r ≡ []
+none-more head b [] h q = refl
+none-more head b (x ∷ r) h q =
     let l : recording-bytes ≤ length b = h (omega arith) in
-    let n : recording-samples ≤ length (samples-in (b ++ (x ∷ r))) = rw (samples-count (b ++ (x ∷ r)), length-append) (omega arith) in
-    absurd (omega (arith, too-many (input-settings (b ++ (x ∷ r))) (q .known) _ n, q .few))
+    let n = samples-over head (b ++ (x ∷ r)) (rw length-append (omega arith)) in
+    absurd (omega (arith, too-many (stored-settings (head-settings head (b ++ (x ∷ r)))) (q .analysed) _ n, q .few))
 
 -- the number is small
-first-small : (half : Bool) (wrong : ℕ) (long : Bool) → wrong ≤ 3 → first-recording-refusal half wrong long ≤ 10
-unfolding first-recording-refusal
-first-small half wrong long h = by half (eqb wrong 0) long
+second-small : (t : SecondThreshold) (type : ℤ) → second-no t type ≤ 11
+unfolding threshold-no
+second-small (Fixed thres2) type = omega arith
+second-small (FromSpeech m) type = by (in-range (m .order) (m .activity) type (m .tilt))
   where
-    by : (x y z : Bool) → cond x 10 (cond y (cond z 6 0) wrong) ≤ 10
-    by true y z = omega arith
-    by false true true = omega arith
-    by false true false = omega arith
-    by false false z = omega arith
+    by : (b : Bool) → cond b 0 11 ≤ 11
+    by true = omega arith
+    by false = omega arith
 
-pub no-small : (b : List ℕ) → recording-no b ≤ 10
+track-settings-small : (k : TrackSettings) (type : ℤ) → track-settings-no k type ≤ 11
+unfolding track-settings-no
+track-settings-small k type = by (eqb (settings-no (stored-settings k)) 0)
+  where
+    by : (b : Bool) → cond b (second-no (k .thres2) type) (settings-no (stored-settings k)) ≤ 11
+    by true = second-small (k .thres2) type
+    by false = omega (arith, settings-small (stored-settings k))
+
+first-small : (half : Bool) (wrong : ℕ) (long known : Bool) → wrong ≤ 11 → first-recording-refusal half wrong long known ≤ 11
+unfolding first-recording-refusal
+first-small half wrong long known h = by half (eqb wrong 0) long known
+  where
+    by : (x y z w : Bool) → cond x 10 (cond y (cond z 6 (cond w 0 9)) wrong) ≤ 11
+    by true y z w = omega arith
+    by false true true w = omega arith
+    by false true false true = omega arith
+    by false true false false = omega arith
+    by false false z w = omega arith
+
+pub no-small : (head : Head) (b : List ℕ) → recording-no head b ≤ 11
 unfolding recording-no
-no-small b = first-small _ _ _ (settings-small (input-settings b))
+no-small head b = first-small _ _ _ _ (track-settings-small (head-settings head b) (pos 0))
 
 -- what holds of an input with any bytes after those at hand: where it is not refused, there are none
-pub at-hand : (b : List ℕ) (more n : ℕ) → (0 < more → recording-bytes ≤ length b) → ((r : List ℕ) → length r ≡ more → n ≡ recording-no (b ++ r)) → n ≡ 0 → (more ≡ 0) × Ready b
-at-hand b more n full f z =
+pub at-hand : (head : Head) (b : List ℕ) (more n : ℕ) → (0 < more → recording-bytes ≤ length b) → ((r : List ℕ) → length r ≡ more → n ≡ recording-no head (b ++ r)) → n ≡ 0
+    → (more ≡ 0) × Ready head b
+at-hand head b more n full f z =
     let r = replicate {A = ℕ} more 0 in
     let l = length-replicate {0} {A = ℕ} more 0 in
-    let q = ready (b ++ r) (sym z ∙ f r l) in
-    let e = none-more b r (λ h. full (omega arith)) q in
-    (sym l ∙ ap length e, subst Ready (ap (λ (t : List ℕ). b ++ t) e ∙ append-nil b) q)
-
-pub small-number : (b : List ℕ) (more n : ℕ) → ((r : List ℕ) → length r ≡ more → n ≡ recording-no (b ++ r)) → n ≤ 10
-small-number b more n f =
-    let r = replicate {A = ℕ} more 0 in
-    omega (arith, f r (length-replicate {0} {A = ℕ} more 0), no-small (b ++ r))
+    let q = ready head (b ++ r) (sym z ∙ f r l) in
+    let e = none-more head b r (λ h. full (omega arith)) q in
+    (sym l ∙ ap length e, subst (Ready head) (ap (λ (t : List ℕ). b ++ t) e ∙ append-nil b) q)
 
 nothing-left : (r : List ℕ) → length r ≡ 0 → r ≡ []
 nothing-left [] e = refl
@@ -184,76 +217,85 @@ pub none-after : (b r : List ℕ) (more : ℕ) → more ≡ 0 → length r ≡ m
 none-after b r more m l = ap (λ (t : List ℕ). b ++ t) (nothing-left r (l ∙ m)) ∙ append-nil b
 
 -- ---- the whole outcome: a text that is laid over the front of `out`
-module _ (b text out : List ℕ) (x t : List ℤ) {len : ℕ} {after : List ℕ} (count : len ≡ length text) (over : after ≡ overwritten text out) where
+module _ (head : Head) (b text out : List ℕ) (x t : List ℤ) {len : ℕ} {after : List ℕ} (count : len ≡ length text) (over : after ≡ overwritten text out) where
   -- a refusal leaves samples and table
-  pub printed-refused : (n : ℕ) → n ≡ recording-no b → (n ≡ 0 → ⊥) → recording-printed len after x t ≡ printed-for b text out x t
+  pub printed-refused : (n : ℕ) → n ≡ recording-no head b → (n ≡ 0 → ⊥) → recording-printed len after x t ≡ printed-for head b text out x t
   unfolding printed-for samples-after table-after
   printed-refused n e h = rw (← e, ne-eqb n 0 h) (λ i. recording-printed (count i) (over i) x t)
 
-  pub printed-taken : recording-no b ≡ 0 → {y u : List ℤ} → y ≡ overwritten (samples-in b) x → u ≡ paper-table (input-settings b) t (samples-in b) → recording-printed len after y u ≡ printed-for b text out x t
+  pub printed-taken : recording-no head b ≡ 0 → {y u : List ℤ} → y ≡ overwritten (samples-in head b) x → u ≡ paper-table (head-settings head b) t (samples-in head b)
+      → recording-printed len after y u ≡ printed-for head b text out x t
   unfolding printed-for samples-after table-after
-  printed-taken e p q = rw (eq-eqb (recording-no b) 0 e) (λ i. recording-printed (count i) (over i) (p i) (q i))
+  printed-taken e p q = rw (eq-eqb (recording-no head b) 0 e) (λ i. recording-printed (count i) (over i) (p i) (q i))
 
 -- ---- what `take_recording` says and leaves, for the input b
 
 -- an input that is taken, with these settings and n samples
-pub record IsTaken (b : List ℕ) (before : List ℤ) (s : Settings) (n : ℕ) (samples : List ℤ) : Type 0 where
-  pub no-refusal : recording-no b ≡ 0
-  pub settings-are : s ≡ input-settings b
-  pub samples-are : samples ≡ overwritten (samples-in b) before
-  pub front : take n samples ≡ samples-in b
-  pub known : settings-no s ≡ 0
-  pub few : F s n ≤ program-frames
-  pub count : n ≡ length (samples-in b)
+pub record IsTaken (head : Head) (b : List ℕ) (before : List ℤ) (k : TrackSettings) (n : ℕ) (samples : List ℤ) : Type 0 where
+  pub no-refusal : recording-no head b ≡ 0
+  pub settings-are : k ≡ head-settings head b
+  pub samples-are : samples ≡ overwritten (samples-in head b) before
+  pub front : take n samples ≡ samples-in head b
+  pub accepted : track-settings-no k (pos 0) ≡ 0
+  pub analysed : settings-no (stored-settings k) ≡ 0
+  pub few : F (stored-settings k) n ≤ program-frames
+  pub count : n ≡ length (samples-in head b)
 
 -- one that is refused with n
-pub record IsRefused (b : List ℕ) (before : List ℤ) (n : ℕ) (samples : List ℤ) : Type 0 where
-  pub number-is : n ≡ recording-no b
+pub record IsRefused (head : Head) (b : List ℕ) (before : List ℤ) (n : ℕ) (samples : List ℤ) : Type 0 where
+  pub number-is : n ≡ recording-no head b
   pub some-number : n ≡ 0 → ⊥
-  pub small : n ≤ 10
+  pub small : n ≤ 11
   pub samples-stay : samples ≡ before
 
-module _ (b : List ℕ) (before samples : List ℤ) (r : Recording) (e : take-outcome r samples ≡ take-call b before) where
-  answer-is : r ≡ recording-answer b
+-- the settings of an input that is not refused
+settings-taken : (head : Head) (b : List ℕ) → 0 ≡ recording-no head b → track-settings-no (head-settings head b) (pos 0) ≡ 0
+unfolding recording-no
+settings-taken head b e = first-none _ _ _ _ e .1
+
+module _ (head : Head) (b : List ℕ) (before samples : List ℤ) (r : Recording) (e : take-outcome r samples ≡ take-call head b before) where
+  answer-is : r ≡ recording-answer head b
   unfolding take-call
   answer-is = ap (λ (o : TakeOutcome). o .answer) e
 
-  left-is : samples ≡ samples-after b before
+  left-is : samples ≡ samples-after head b before
   unfolding take-call
   left-is = ap (λ (o : TakeOutcome). o .samples) e
 
-  pub is-taken : (s : Settings) (n : ℕ) → r ≡ Taken s n → IsTaken b before s n samples
+  pub is-taken : (k : TrackSettings) (n : ℕ) → r ≡ Taken k n → IsTaken head b before k n samples
   unfolding recording-answer samples-after
-  is-taken s n g = by (eqb (recording-no b) 0) refl answer-is left-is
+  is-taken k n g = by (eqb (recording-no head b) 0) refl answer-is left-is
     where
-      by : (q : Bool) → eqb (recording-no b) 0 ≡ q → r ≡ cond q (Taken (input-settings b) (length (samples-in b))) (Refused (recording-no b)) → samples ≡ cond q (overwritten (samples-in b) before) before
-          → IsTaken b before s n samples
+      by : (q : Bool) → eqb (recording-no head b) 0 ≡ q → r ≡ cond q (Taken (head-settings head b) (length (samples-in head b))) (Refused (recording-no head b)) → samples ≡ cond q (overwritten (samples-in head b) before) before
+          → IsTaken head b before k n samples
       by true p a y =
-          let z = eqb-true (recording-no b) 0 p in
-          let q = ready b (sym z) in
-          let es : s ≡ input-settings b = cc in
-          let en : n ≡ length (samples-in b) = cc in
+          let z = eqb-true (recording-no head b) 0 p in
+          let q = ready head b (sym z) in
+          let ek : k ≡ head-settings head b = cc in
+          let en : n ≡ length (samples-in head b) = cc in
+          let ok = ap (λ (t : TrackSettings). track-settings-no t (pos 0)) ek ∙ settings-taken head b (sym z) in
           record {
             no-refusal = z;
-            settings-are = es;
+            settings-are = ek;
             samples-are = y;
-            front = ap (take n) y ∙ take-overwritten (samples-in b) before n (sym en);
-            known = ap settings-no es ∙ q .known;
-            few = rw (es, en) (q .few);
+            front = ap (take n) y ∙ take-overwritten (samples-in head b) before n (sym en);
+            accepted = ok;
+            analysed = known k (pos 0) ok;
+            few = rw (ek, en) (q .few);
             count = en;
           }
       by false p a y = let z : _≡_ {A = ℕ} 0 1 = cc in absurd (omega arith)
 
-  pub is-refused : (n : ℕ) → r ≡ Refused n → IsRefused b before n samples
+  pub is-refused : (n : ℕ) → r ≡ Refused n → IsRefused head b before n samples
   unfolding recording-answer samples-after
-  is-refused n g = by (eqb (recording-no b) 0) refl answer-is left-is
+  is-refused n g = by (eqb (recording-no head b) 0) refl answer-is left-is
     where
-      by : (q : Bool) → eqb (recording-no b) 0 ≡ q → r ≡ cond q (Taken (input-settings b) (length (samples-in b))) (Refused (recording-no b)) → samples ≡ cond q (overwritten (samples-in b) before) before
-          → IsRefused b before n samples
+      by : (q : Bool) → eqb (recording-no head b) 0 ≡ q → r ≡ cond q (Taken (head-settings head b) (length (samples-in head b))) (Refused (recording-no head b)) → samples ≡ cond q (overwritten (samples-in head b) before) before
+          → IsRefused head b before n samples
       by true p a y = let z : _≡_ {A = ℕ} 0 1 = cc in absurd (omega arith)
       by false p a y =
-          let k : n ≡ recording-no b = cc in
-          record { number-is = k; some-number = λ z. eqb-false (recording-no b) 0 p (sym k ∙ z); small = omega (arith, k, no-small b); samples-stay = y }
+          let k : n ≡ recording-no head b = cc in
+          record { number-is = k; some-number = λ z. eqb-false (recording-no head b) 0 p (sym k ∙ z); small = omega (arith, k, no-small head b); samples-stay = y }
 
 -- bytes that may follow
 abbrev pub any-rest : ℕ → List ℕ
@@ -263,11 +305,11 @@ pub length-any-rest : (more : ℕ) → length (any-rest more) ≡ more
 length-any-rest more = length-replicate {0} {A = ℕ} more 0
 
 -- the outcome, from the number and the samples that were loaded
-pub refused-outcome : (b : List ℕ) (x : List ℤ) (n : ℕ) → n ≡ recording-no b → (n ≡ 0 → ⊥) → take-outcome (Refused n) x ≡ take-call b x
+pub refused-outcome : (head : Head) (b : List ℕ) (x : List ℤ) (n : ℕ) → n ≡ recording-no head b → (n ≡ 0 → ⊥) → take-outcome (Refused n) x ≡ take-call head b x
 unfolding take-call recording-answer samples-after
-refused-outcome b x n e h = rw (← e, ne-eqb n 0 h)
+refused-outcome head b x n e h = rw (← e, ne-eqb n 0 h)
 
-pub taken-outcome : (b : List ℕ) (x y : List ℤ) (s : Settings) (n : ℕ) → recording-no b ≡ 0 → s ≡ input-settings b → n ≡ length (samples-in b) → y ≡ overwritten (samples-in b) x
-    → take-outcome (Taken s n) y ≡ take-call b x
+pub taken-outcome : (head : Head) (b : List ℕ) (x y : List ℤ) (k : TrackSettings) (n : ℕ) → recording-no head b ≡ 0 → k ≡ head-settings head b → n ≡ length (samples-in head b) → y ≡ overwritten (samples-in head b) x
+    → take-outcome (Taken k n) y ≡ take-call head b x
 unfolding take-call recording-answer samples-after
-taken-outcome b x y s n z es en ey = rw (eq-eqb (recording-no b) 0 z) (λ i. take-outcome (Taken (es i) (en i)) (ey i))
+taken-outcome head b x y k n z ek en ey = rw (eq-eqb (recording-no head b) 0 z) (λ i. take-outcome (Taken (ek i) (en i)) (ey i))

@@ -1,22 +1,13 @@
 // The program `sheet_write`: reads settings and samples from standard input, as `track` does, and writes the track's sheet, or the refusal (`sheet_write_bytes` has what it writes).
 // Where a read fails it writes nothing; that, or a failed write, it says in a line on standard error.
-ghost use mathlib.Core.Path.{_≡_};
-ghost use lib.ListN.{length};
-ghost use Rattle.sheet_write_bytes.specs.Program.{longest-program-sheet};
 use pitch_recording::input_room;
 use pitch_recording::sample_room;
 use pitch_recording::table_room;
+use recording_head::Head;
 use recording_io::read_recording;
 use recording_io::write_output;
-use sheet_write_bytes::LONGEST_PROGRAM_SHEET;
+use sheet_write_bytes::sheet_room;
 use sheet_write_bytes::sheet_write_bytes;
-
-// Room for the sheet of as many voiced frames as a program takes. The `ensures` gives only the length, so that nothing unfolds the zeros.
-fn sheet_room() -> [u8; LONGEST_PROGRAM_SHEET]
-    ensures { λ r. ⌜ longest-program-sheet ≡ length r ⌝ }
-{
-    [0; LONGEST_PROGRAM_SHEET]
-}
 
 fn main() {
     let mut bytes = input_room();
@@ -25,9 +16,17 @@ fn main() {
         return;
     }
     let n = got.count;
+    let head = Head::Plain;
     let mut samples = sample_room();
     let mut table = table_room();
     let mut out = sheet_room();
-    let r = sheet_write_bytes(&bytes[..n], got.more, &mut samples, &mut table, &mut out);
+    let r = sheet_write_bytes(
+        head,
+        &bytes[..n],
+        got.more,
+        &mut samples,
+        &mut table,
+        &mut out,
+    );
     write_output(b"sheet_write", &out[..r]);
 }

@@ -1,4 +1,4 @@
--- What the program `sheet_write` writes. Definitions: `Program`; laws: `ProgramLaws`; `ProgramCases` has examples.
+-- What the programs `sheet_write` and `sheet_write_options` write. Definitions: `Program`; laws: `ProgramLaws`; `ProgramCases` has examples.
 pub mod Program
 pub mod ProgramLaws
 pub mod ProgramCases

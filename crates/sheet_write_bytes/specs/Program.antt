@@ -1,10 +1,11 @@
--- The program `sheet_write`: the bytes that it writes, as a function of all bytes of its input, which is what `track` takes (docs/SCOPE.md, Programs), and what its call leaves in each lent place. Definitions only.
+-- The programs `sheet_write` and `sheet_write_options`: the bytes that they write, as a function of all bytes of their input, which is what `track` or `track_options` takes (docs/SCOPE.md, Programs), and what its call leaves in each lent place. Definitions only.
 use mathlib.Core.Bool.{cond}
 use mathlib.Core.List.{List}
 use Prim.Native.Nat.{ℕ}
 use lib.Dec.{eqb}
 use lib.IntN.{ℤ}
-use Rattle.pitch_input.specs.Input.{input-settings}
+use Rattle.recording_head.specs.declared.Head.{Head}
+use Rattle.recording_head.specs.Head.{head-settings}
 use Rattle.pitch_text.specs.Text.{refused-text}
 use Rattle.pitch_recording.specs.Recording.{program-frames, samples-in, recording-no, RecordingPrinted, printed-for}
 use Rattle.sheet_sections.specs.Sheet.{sheet-length}
@@ -14,10 +15,10 @@ use Rattle.track_sheet.specs.Accepted.{paper-sheet}
 abbrev pub longest-program-sheet : ℕ
 longest-program-sheet = sheet-length program-frames program-frames
 
--- the sheet of the samples' track on paper; or `refused` and the number: 10, 1, 2, 3 or 6. There is no 9: writing accepts every track
-unfoldable pub sheet-written : List ℕ → List ℕ
-sheet-written b = cond (eqb (recording-no b) 0) (paper-sheet (input-settings b) (samples-in b)) (refused-text (recording-no b))
+-- the sheet of the samples' track on paper; or `refused` and the number, where the input is refused. Writing accepts every track, so a 9 is the head's
+unfoldable pub sheet-written : Head → List ℕ → List ℕ
+sheet-written head b = cond (eqb (recording-no head b) 0) (paper-sheet (head-settings head b) (samples-in head b)) (refused-text (recording-no head b))
 
--- what `sheet_write_bytes` leaves of `out`, `samples` and `table` for the input b: these bytes over the front of `out`, the others as `track_text` leaves them
-unfoldable pub sheet-bytes-call : List ℕ → List ℕ → List ℤ → List ℤ → RecordingPrinted
-sheet-bytes-call b = printed-for b (sheet-written b)
+-- what `sheet_write_bytes` leaves of `out`, `samples` and `table` for the input b with this head: these bytes over the front of `out`, the others as `track_text` leaves them
+unfoldable pub sheet-bytes-call : Head → List ℕ → List ℕ → List ℤ → List ℤ → RecordingPrinted
+sheet-bytes-call head b = printed-for head b (sheet-written head b)

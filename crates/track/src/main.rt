@@ -1,22 +1,13 @@
 // The program `track`: reads settings and samples from standard input and prints the rows of the track, or the refusal (`track_text` has what it prints).
 // Where a read fails it prints nothing; that, or a failed write, it says in a line on standard error.
-ghost use mathlib.Core.Path.{_≡_};
-ghost use lib.ListN.{length};
-ghost use Rattle.track_text.specs.Program.{longest-text};
 use pitch_recording::input_room;
 use pitch_recording::sample_room;
 use pitch_recording::table_room;
+use recording_head::Head;
 use recording_io::read_recording;
 use recording_io::write_output;
-use track_text::LONGEST_TEXT;
+use track_text::text_room;
 use track_text::track_text;
-
-// Room for the text of the longest track. The `ensures` gives only the length, so that nothing unfolds the zeros.
-fn text_room() -> [u8; LONGEST_TEXT]
-    ensures { λ r. ⌜ longest-text ≡ length r ⌝ }
-{
-    [0; LONGEST_TEXT]
-}
 
 fn main() {
     let mut bytes = input_room();
@@ -25,9 +16,17 @@ fn main() {
         return;
     }
     let n = got.count;
+    let head = Head::Plain;
     let mut samples = sample_room();
     let mut table = table_room();
     let mut out = text_room();
-    let r = track_text(&bytes[..n], got.more, &mut samples, &mut table, &mut out);
+    let r = track_text(
+        head,
+        &bytes[..n],
+        got.more,
+        &mut samples,
+        &mut table,
+        &mut out,
+    );
     write_output(b"track", &out[..r]);
 }

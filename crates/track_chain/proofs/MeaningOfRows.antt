@@ -10,6 +10,9 @@ use lib.Seq.{length-take-le}
 use Rattle.pitch_settings.specs.declared.Settings.{Settings}
 use Rattle.pitch_settings.specs.Settings.{settings-no, frame-length, hop-length}
 use Rattle.pitch_settings.specs.SettingsLaws.{accepted-settings}
+use Rattle.track_settings.specs.declared.TrackSettings.{TrackSettings}
+use Rattle.track_settings.specs.TrackSettings.{stored-settings, row-settings}
+use Rattle.track_settings.specs.TrackSettingsLaws.{row-no, row-length}
 use Rattle.pitch_table.specs.Row.{numbers, pair-lag, voiced-row, unpitched-row}
 use Rattle.pitch_table.specs.RowLaws.{pair-lag-in, pair-lag-past}
 use Rattle.silk_tables.specs.Rebuild.{rebuilt}
@@ -18,7 +21,7 @@ use Rattle.silk_pitch_analysis.specs.declared.Verdict.the-variants.{Voiced, Unv
 use Rattle.silk_pitch_analysis.specs.Frame.{row-from, frame-row, verdict-of}
 use Rattle.silk_pitch_analysis.specs.Meaning.{VerdictExactly}
 use Rattle.silk_pitch_analysis.specs.MeaningLaws.{verdict-exactly}
-use Rattle.track_paper.specs.Paper.{no-previous, next-row, frames-done, window, previous, paper-row}
+use Rattle.track_paper.specs.Paper.{no-previous, frames-done, window, previous, paper-row}
 use Rattle.track_chain.specs.Meaning.{subframe-lag, RowSays}
 use Rattle.track_paper.specs.declared.Prev.{Prev}
 use Rattle.track_paper.specs.PaperLaws.{whole-frame}
@@ -89,7 +92,7 @@ zeros-by s Unvoiced h = refl
 zeros-by s ZeroDivisor h = refl
 
 -- the row of a whole frame
-pub row-says : (s : Settings) (x : List ℤ) (p : Prev) → settings-no s ≡ 0 → length x ≡ frame-length s → RowSays s x p (next-row s x p)
+pub row-says : (s : Settings) (x : List ℤ) (p : Prev) → settings-no s ≡ 0 → length x ≡ frame-length s → RowSays s x p (frame-row s x (p .lag) (p .correlation))
 unfolding frame-row row-from voiced-row unpitched-row
 row-says s x p h len =
     let v : Verdict = verdict-of s x (p .lag) (p .correlation) in
@@ -110,11 +113,14 @@ row-says s x p h len =
       zeros-after = λ e. zeros-by s v e;
     }
 
--- row i of the track on paper, for every finished frame
-pub rows-say : (s : Settings) (j : List ℤ) → settings-no s ≡ 0 → (i : ℕ) → i < frames-done s j
-    → RowSays s (window s j i) (previous s j no-previous i) (paper-row s j no-previous i)
+-- row i of the track on paper, for every finished frame, with the threshold that it had
+pub rows-say : (k : TrackSettings) (j : List ℤ) → settings-no (stored-settings k) ≡ 0 → (i : ℕ) → i < frames-done (stored-settings k) j
+    → RowSays (row-settings k (previous k j no-previous i .signal)) (window (stored-settings k) j i) (previous k j no-previous i) (paper-row k j no-previous i)
 unfolding window paper-row
-rows-say s j h i l =
+rows-say k j h i l =
+    let s = stored-settings k in
+    let p = previous k j no-previous i in
+    let x = take (frame-length s) (drop (i * hop-length s) j) in
     let inside : i * hop-length s + frame-length s ≤ length j = whole-frame s h j i l in
     let len : length (take (frame-length s) (drop (i * hop-length s) j)) ≡ frame-length s = length-take-le (frame-length s) (drop (i * hop-length s) j) (omega (arith, length-drop (i * hop-length s) j)) in
-    row-says s (take (frame-length s) (drop (i * hop-length s) j)) (previous s j no-previous i) h len
+    row-says (row-settings k (p .signal)) x p (row-no k (p .signal) ∙ h) (len ∙ sym (row-length k (p .signal)))

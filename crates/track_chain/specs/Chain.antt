@@ -1,16 +1,17 @@
 -- A chain of deliveries from a fresh start, and what the track on paper says of all of it (docs/SCOPE.md, Track). Definitions only.
-use Prim.Native.Nat.{ℕ, _+_, _-_, _*_, _/_, _≤_, _<_}
+use Prim.Native.Nat.{ℕ, suc, _+_, _-_, _*_, _/_, _≤_, _<_}
 use mathlib.Core.Path.{_≡_}
 use mathlib.Core.Bool.{cond}
 use mathlib.Core.List.{List, [], _∷_, _++_}
 use lib.IntN.{ℤ}
 use lib.ListN.{length, take, drop}
 use lib.Dec.{eqb}
-use Rattle.pitch_settings.specs.declared.Settings.{Settings}
+use Rattle.track_settings.specs.declared.TrackSettings.{TrackSettings}
+use Rattle.track_settings.specs.TrackSettings.{stored-settings, row-settings}
 use Rattle.pitch_track.specs.declared.Track.{Track}
 use Rattle.track_paper.specs.declared.TrackAnswer.{TrackAnswer}
 use Rattle.pitch_table.specs.Row.{row-size, numbers, row-at}
-use Rattle.track_paper.specs.Paper.{answer-no, track-limit, previous, no-previous, window, paper-row, paper-numbers, joined-samples, paper-answers, frames-done, samples-held, paper-table}
+use Rattle.track_paper.specs.Paper.{answer-no, track-limit, after, previous, no-previous, window, paper-row, paper-numbers, joined-samples, paper-answers, frames-done, samples-held, paper-table}
 use Rattle.track_chain.specs.Meaning.{RowSays}
 use Rattle.pitch_track.specs.Step.{DeliveryOutcome, padded, start-call, deliver-call}
 
@@ -30,21 +31,21 @@ chain tr t [] = record { said = []; track = tr; table = t }
 chain tr t (d ∷ ds) = then (deliver-call tr t d) (chain (deliver-call tr t d .delivered .track) (deliver-call tr t d .table) ds)
 
 -- the chain from a fresh start
-abbrev pub run-from-start : Settings → List ℤ → List (List ℤ) → Left
-run-from-start s t ds = chain (start-call s .track) t ds
+abbrev pub run-from-start : TrackSettings → List ℤ → List (List ℤ) → Left
+run-from-start k t ds = chain (start-call k .track) t ds
 
 -- J at the end of the list, on paper
-abbrev pub final-samples : Settings → List ℤ → List (List ℤ) → List ℤ
-final-samples s t ds = joined-samples track-limit s (length t / row-size) [] ds
+abbrev pub final-samples : TrackSettings → List ℤ → List (List ℤ) → List ℤ
+final-samples k t ds = joined-samples track-limit (stored-settings k) (length t / row-size) [] ds
 
 -- the claim about the whole list
-pub record OnPaper (s : Settings) (t : List ℤ) (ds : List (List ℤ)) : Type 0 where
-  pub said : run-from-start s t ds .said ≡ paper-answers track-limit s (length t / row-size) [] ds
-  pub frames : run-from-start s t ds .track .frames ≡ frames-done s (final-samples s t ds)
-  pub held : take (run-from-start s t ds .track .count) (run-from-start s t ds .track .held) ≡ samples-held s (final-samples s t ds)
-  pub rows : (i : ℕ) → i < frames-done s (final-samples s t ds) → take row-size (drop (i * row-size) (run-from-start s t ds .table)) ≡ numbers (paper-row s (final-samples s t ds) no-previous i)
-  pub others : drop (frames-done s (final-samples s t ds) * row-size) (run-from-start s t ds .table) ≡ drop (frames-done s (final-samples s t ds) * row-size) t
-  pub size : length (run-from-start s t ds .table) ≡ length t
+pub record OnPaper (k : TrackSettings) (t : List ℤ) (ds : List (List ℤ)) : Type 0 where
+  pub said : run-from-start k t ds .said ≡ paper-answers track-limit (stored-settings k) (length t / row-size) [] ds
+  pub frames : run-from-start k t ds .track .frames ≡ frames-done (stored-settings k) (final-samples k t ds)
+  pub held : take (run-from-start k t ds .track .count) (run-from-start k t ds .track .held) ≡ samples-held (stored-settings k) (final-samples k t ds)
+  pub rows : (i : ℕ) → i < frames-done (stored-settings k) (final-samples k t ds) → take row-size (drop (i * row-size) (run-from-start k t ds .table)) ≡ numbers (paper-row k (final-samples k t ds) no-previous i)
+  pub others : drop (frames-done (stored-settings k) (final-samples k t ds) * row-size) (run-from-start k t ds .table) ≡ drop (frames-done (stored-settings k) (final-samples k t ds) * row-size) t
+  pub size : length (run-from-start k t ds .table) ≡ length t
 
 -- the numbers that a chain's answers say: 0 where a delivery was accepted, else the refusal's
 unfoldable pub answer-nos : List TrackAnswer → List ℕ
@@ -63,8 +64,8 @@ accepted-samples (n ∷ rest) [] = []
 accepted-samples (n ∷ rest) (d ∷ ds) = accepted-part n d ++ accepted-samples rest ds
 
 -- those of a list of deliveries
-abbrev pub accepted-in : Settings → List ℤ → List (List ℤ) → List ℤ
-accepted-in s t ds = accepted-samples (answer-nos (run-from-start s t ds .said)) ds
+abbrev pub accepted-in : TrackSettings → List ℤ → List (List ℤ) → List ℤ
+accepted-in k t ds = accepted-samples (answer-nos (run-from-start k t ds .said)) ds
 
 -- the finished rows in a table, by the frames done
 abbrev pub finished : Track → List ℤ → List ℤ
@@ -78,30 +79,32 @@ pub record EndsAs (track : Track) (table : List ℤ) (l : Left) : Type 0 where
   pub state-same : track ≡ l .track
 
 -- the claim about two lists of deliveries, ds into a table t and es into a table u
-abbrev pub SameRows : Settings → List ℤ → List ℤ → List (List ℤ) → List (List ℤ) → Type 0
-SameRows s t u ds es = accepted-in s t ds ≡ accepted-in s u es → EndsAs (run-from-start s t ds .track) (run-from-start s t ds .table) (run-from-start s u es)
+abbrev pub SameRows : TrackSettings → List ℤ → List ℤ → List (List ℤ) → List (List ℤ) → Type 0
+SameRows k t u ds es = accepted-in k t ds ≡ accepted-in k u es → EndsAs (run-from-start k t ds .track) (run-from-start k t ds .table) (run-from-start k u es)
 
 -- the state on paper: that of a track whose accepted samples are j
-unfoldable pub paper-state : Settings → List ℤ → Track
-paper-state s j =
+unfoldable pub paper-state : TrackSettings → List ℤ → Track
+paper-state k j =
     record {
-      settings = s;
-      frames = frames-done s j;
-      held = padded (samples-held s j);
-      count = length (samples-held s j);
-      prev = previous s j no-previous (frames-done s j);
+      settings = k;
+      frames = frames-done (stored-settings k) j;
+      held = padded (samples-held (stored-settings k) j);
+      count = length (samples-held (stored-settings k) j);
+      prev = previous k j no-previous (frames-done (stored-settings k) j);
     }
 
 -- what a chain leaves: its answers' numbers, its track and its table are those of the track on paper; and it ends as every other list does, into any table, whose accepted samples,
 -- joined, are those that its own answers tell
-pub record Ended (s : Settings) (t : List ℤ) (ds : List (List ℤ)) (said : List ℕ) (track : Track) (table : List ℤ) : Type 0 where
-  pub answers-are : said ≡ answer-nos (paper-answers track-limit s (length t / row-size) [] ds)
-  pub frames-are : track .frames ≡ frames-done s (final-samples s t ds)
-  pub held-are : take (track .count) (track .held) ≡ samples-held s (final-samples s t ds)
-  pub rows-are : (i : ℕ) → i < frames-done s (final-samples s t ds) → take row-size (drop (i * row-size) table) ≡ numbers (paper-row s (final-samples s t ds) no-previous i)
-  pub others-are : drop (frames-done s (final-samples s t ds) * row-size) table ≡ drop (frames-done s (final-samples s t ds) * row-size) t
-  pub rows-say : (i : ℕ) → i < frames-done s (final-samples s t ds)
-      → RowSays s (window s (final-samples s t ds) i) (previous s (final-samples s t ds) no-previous i) (row-at table i)
-  pub state-is : track ≡ paper-state s (final-samples s t ds)
-  pub table-is : table ≡ paper-table s t (final-samples s t ds)
-  pub cuts-free : (u : List ℤ) (es : List (List ℤ)) → accepted-samples said ds ≡ accepted-in s u es → EndsAs track table (run-from-start s u es)
+pub record Ended (k : TrackSettings) (t : List ℤ) (ds : List (List ℤ)) (said : List ℕ) (track : Track) (table : List ℤ) : Type 0 where
+  pub answers-are : said ≡ answer-nos (paper-answers track-limit (stored-settings k) (length t / row-size) [] ds)
+  pub frames-are : track .frames ≡ frames-done (stored-settings k) (final-samples k t ds)
+  pub held-are : take (track .count) (track .held) ≡ samples-held (stored-settings k) (final-samples k t ds)
+  pub rows-are : (i : ℕ) → i < frames-done (stored-settings k) (final-samples k t ds) → take row-size (drop (i * row-size) table) ≡ numbers (paper-row k (final-samples k t ds) no-previous i)
+  pub others-are : drop (frames-done (stored-settings k) (final-samples k t ds) * row-size) table ≡ drop (frames-done (stored-settings k) (final-samples k t ds) * row-size) t
+  pub rows-say : (i : ℕ) → i < frames-done (stored-settings k) (final-samples k t ds)
+      → RowSays (row-settings k (previous k (final-samples k t ds) no-previous i .signal)) (window (stored-settings k) (final-samples k t ds) i) (previous k (final-samples k t ds) no-previous i) (row-at table i)
+  -- what stands before the next row, its type among it, is what this row leaves
+  pub rows-leave : (i : ℕ) → i < frames-done (stored-settings k) (final-samples k t ds) → previous k (final-samples k t ds) no-previous (suc i) ≡ after (stored-settings k) (row-at table i)
+  pub state-is : track ≡ paper-state k (final-samples k t ds)
+  pub table-is : table ≡ paper-table k t (final-samples k t ds)
+  pub cuts-free : (u : List ℤ) (es : List (List ℤ)) → accepted-samples said ds ≡ accepted-in k u es → EndsAs track table (run-from-start k u es)

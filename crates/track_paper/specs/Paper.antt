@@ -7,6 +7,9 @@ use lib.ListN.{length, take, drop}
 use lib.Dec.{ltb, eqb}
 use Rattle.pitch_settings.specs.declared.Settings.{Settings}
 use Rattle.pitch_settings.specs.Settings.{frame-length, hop-length}
+use Rattle.track_settings.specs.declared.TrackSettings.{TrackSettings}
+use Rattle.track_settings.specs.TrackSettings.{stored-settings, row-settings}
+use Rattle.zint.specs.Equal.{eqZ}
 use Rattle.pitch_table.specs.Row.{row-size, most-frames, numbers}
 use Rattle.silk_pitch_analysis.specs.Frame.{frame-row}
 use Rattle.track_paper.specs.declared.Prev.{Prev}
@@ -40,35 +43,40 @@ frame-count len hop n = cond (ltb n len) 0 (1 + (n - len) / hop)
 abbrev pub F : Settings → ℕ → ℕ
 F s n = frame-count (frame-length s) (hop-length s) n
 
--- the row of one frame (docs/SCOPE.md, Stages, and the row rules of Track), from the settings, its samples and what the row before it left
-abbrev pub next-row : Settings → List ℤ → Prev → Row
-next-row s x p = frame-row s x (p .lag) (p .correlation)
+-- the row of one frame (docs/SCOPE.md, Stages, and the row rules of Track), from the settings, its samples and what the row before it left; its second threshold is the fixed one, or
+-- comes from the type of the row before
+abbrev pub next-row : TrackSettings → List ℤ → Prev → Row
+next-row k x p = frame-row (row-settings k (p .signal)) x (p .lag) (p .correlation)
 
 -- what stands before the first row
 abbrev pub no-previous : Prev
-no-previous = record { lag = pos 0; correlation = pos 0 }
+no-previous = record { lag = pos 0; correlation = pos 0; signal = pos 0 }
 
--- what a row leaves to the next: the lag of its last subframe and its correlation
+-- the type of a row's signal: 2 where it is voiced, and else 1
+abbrev pub row-type : Row → ℤ
+row-type r = cond (eqZ (r .verdict) (pos 0)) (pos 2) (pos 1)
+
+-- what a row leaves to the next: the lag of its last subframe, its correlation and its type
 unfoldable pub after : Settings → Row → Prev
-after s r = record { lag = cond (eqb (s .nb) 2) (r .lag1) (r .lag3); correlation = r .correlation }
+after s r = record { lag = cond (eqb (s .nb) 2) (r .lag1) (r .lag3); correlation = r .correlation; signal = row-type r }
 
 -- frame i of x: the N samples from i × hop on
 unfoldable pub window : Settings → List ℤ → ℕ → List ℤ
 window s x i = take (frame-length s) (drop (i * hop-length s) x)
 
 -- what stands before row i of x, where p stands before row 0
-unfoldable pub previous : Settings → List ℤ → Prev → ℕ → Prev
-previous s x p zero = p
-previous s x p (suc i) = after s (next-row s (window s x i) (previous s x p i))
+unfoldable pub previous : TrackSettings → List ℤ → Prev → ℕ → Prev
+previous k x p zero = p
+previous k x p (suc i) = after (stored-settings k) (next-row k (window (stored-settings k) x i) (previous k x p i))
 
 -- row i of x
-unfoldable pub paper-row : Settings → List ℤ → Prev → ℕ → Row
-paper-row s x p i = next-row s (window s x i) (previous s x p i)
+unfoldable pub paper-row : TrackSettings → List ℤ → Prev → ℕ → Row
+paper-row k x p i = next-row k (window (stored-settings k) x i) (previous k x p i)
 
--- the numbers of the first k rows of x
-unfoldable pub paper-numbers : Settings → List ℤ → Prev → ℕ → List ℤ
-paper-numbers s x p zero = []
-paper-numbers s x p (suc k) = paper-numbers s x p k ++ numbers (paper-row s x p k)
+-- the numbers of the first n rows of x
+unfoldable pub paper-numbers : TrackSettings → List ℤ → Prev → ℕ → List ℤ
+paper-numbers k x p zero = []
+paper-numbers k x p (suc n) = paper-numbers k x p n ++ numbers (paper-row k x p n)
 
 -- ---- deliveries
 
@@ -108,5 +116,5 @@ abbrev pub samples-held : Settings → List ℤ → List ℤ
 samples-held s j = drop (frames-done s j * hop-length s) j
 
 -- the table at the end: the finished rows, and then what it had at the start
-unfoldable pub paper-table : Settings → List ℤ → List ℤ → List ℤ
-paper-table s t j = paper-numbers s j no-previous (frames-done s j) ++ drop (frames-done s j * row-size) t
+unfoldable pub paper-table : TrackSettings → List ℤ → List ℤ → List ℤ
+paper-table k t j = paper-numbers k j no-previous (frames-done (stored-settings k) j) ++ drop (frames-done (stored-settings k) j * row-size) t

@@ -3,10 +3,11 @@ ghost use mathlib.Core.Path.{_≡_};
 ghost use Rattle.track_paper.specs.Paper.{track-limit, answer-no};
 use pitch_table::MOST_FRAMES;
 
-// What a row leaves to the next: the lag of its last subframe and its correlation.
+// What a row leaves to the next: the lag of its last subframe, its correlation, and the type of its signal (2 voiced, 1 not; 0 before the first row).
 pub struct Prev {
     pub lag: i32,
     pub correlation: i32,
+    pub signal: i32,
 }
 
 // How many frames a track may have, and the number of the refusal of a delivery that would make more.

@@ -9,9 +9,11 @@ ghost use Rattle.track_refusal.specs.Refusal.{slice-bound, first-refusal
 use pitch_settings::Settings;
 use pitch_settings::frame_length;
 use pitch_settings::hop_length;
-use pitch_settings::settings_no;
 use pitch_table::ROW_SIZE;
 use track_paper::Limit;
+use track_settings::TrackSettings;
+use track_settings::stored_settings;
+use track_settings::track_settings_no;
 
 // No slice has as many samples: each has two bytes.
 const SLICE_BOUND: usize = 4611686018427387904;
@@ -87,24 +89,27 @@ fn is_short(frames: usize, numbers: usize) -> bool
     false
 }
 
-// The number of the refusal, or 0, of a delivery of d samples to a track of these settings that has done `frames` and holds `count` samples, with a table of so many numbers.
+// The number of the refusal, or 0, of a delivery of d samples to a track of these settings, with this type of the signal before its next row, that has done `frames` and holds `count`
+// samples, with a table of so many numbers.
 pub fn delivery_refusal(
     limit: Limit,
-    s: Settings,
+    k: TrackSettings,
+    signal_type: i32,
     frames: usize,
     count: usize,
     d: usize,
     numbers: usize,
 ) -> usize
     requires { ⌜ (limit .frames ≤ most-frames) × (d < slice-bound) ⌝ }
-    ensures { λ r. ⌜ r ≡ delivery-refusal limit s frames count d numbers ⌝ }
+    ensures { λ r. ⌜ r ≡ delivery-refusal limit k «signal_type» frames count d numbers ⌝ }
 {
     let over = limit.number;
     let most = limit.frames;
-    let wrong = settings_no(s);
+    let wrong = track_settings_no(k, signal_type);
     if wrong != 0 {
         return first_no(over, wrong, false, false, false, false);
     }
+    let s = stored_settings(k);
     let full = is_full(s, count);
     if is_long(most, s, frames, count, d) {
         return first_no(over, 0, true, full, false, false);

@@ -10,17 +10,18 @@ use borrow.Author.Tests.{eq-eqb, ne-eqb}
 use lib.IntN.{ℤ}
 use lib.ListN.{length, getD, take, drop, set, length-take, drop-of-length-le}
 use lib.Seq.{drop-cons, take-suc-set, take-all, take-length, take-at}
-use Rattle.pitch_settings.specs.declared.Settings.{Settings}
+use Rattle.track_settings.specs.declared.TrackSettings.{TrackSettings}
+use Rattle.track_settings.specs.TrackSettings.{stored-settings}
+use Rattle.track_settings.specs.TrackSettingsLaws.{known}
 use Rattle.pitch_track.specs.declared.Track.{Track}
 use Rattle.pitch_track.specs.declared.Delivered.{Delivered}
 use Rattle.track_run.specs.declared.Ran.{Ran}
-use Rattle.pitch_settings.specs.Settings.{settings-no}
-use Rattle.track_paper.specs.Paper.{answer-no, frames-done}
-use Rattle.pitch_track.specs.Step.{DeliveryOutcome, delivery-outcome, start-call, deliver-call}
+use Rattle.track_paper.specs.Paper.{answer-no, no-previous, after, frames-done}
+use Rattle.pitch_track.specs.Step.{DeliveryOutcome, delivery-outcome, start-no, start-call, deliver-call}
 use Rattle.track_chain.specs.Chain.{Left, then, chain, run-from-start, final-samples, answer-nos, accepted-samples, Ended}
 use Rattle.track_run.specs.Run.{parts, deliveries, run-outcome, run-call, EndsOnPaper}
 use Rattle.track_paper.specs.FramesLaws.{lt-or-le}
-use Rattle.track_paper.specs.RowsLaws.{row-read}
+use Rattle.track_paper.specs.RowsLaws.{row-read, before-suc}
 use Rattle.pitch_table.specs.Row.{row-size}
 use Rattle.track_chain.proofs.MeaningOfRows.{rows-say}
 use Rattle.track_chain.proofs.OnPaper.{on-paper, equation, same-rows}
@@ -111,7 +112,7 @@ length-parts [] x = refl
 length-parts (n ∷ ns) x = ap suc (length-parts ns (drop n x))
 
 -- what a run leaves is the track on paper
-pub ended : (s : Settings) → settings-no s ≡ 0 → (t : List ℤ) (ds : List (List ℤ)) (said : List ℕ) (tr : Track) (table : List ℤ)
+pub ended : (s : TrackSettings) → start-no s ≡ 0 → (t : List ℤ) (ds : List (List ℤ)) (said : List ℕ) (tr : Track) (table : List ℤ)
     → tr ≡ run-from-start s t ds .track → said ≡ answer-nos (run-from-start s t ds .said) → table ≡ run-from-start s t ds .table → Ended s t ds said tr table
 ended s ok t ds said tr table e n h =
     let q = on-paper s ok t ds in
@@ -120,22 +121,26 @@ ended s ok t ds said tr table e n h =
       frames-are = ap (λ (x : Track). x .frames) e ∙ q .frames;
       held-are = ap (λ (x : Track). take (x .count) (x .held)) e ∙ q .held;
       rows-are = λ k g. ap (λ (l : List ℤ). take row-size (drop (k * row-size) l)) h ∙ q .rows k g;
-      others-are = ap (drop (frames-done s (final-samples s t ds) * row-size)) h ∙ q .others;
-      rows-say = λ k g. rw (row-read table k _ (ap (λ (l : List ℤ). take row-size (drop (k * row-size) l)) h ∙ q .rows k g)) (rows-say s (final-samples s t ds) ok k g);
+      others-are = ap (drop (frames-done (stored-settings s) (final-samples s t ds) * row-size)) h ∙ q .others;
+      rows-say = λ k g. rw (row-read table k _ (ap (λ (l : List ℤ). take row-size (drop (k * row-size) l)) h ∙ q .rows k g)) (rows-say s (final-samples s t ds) (known s (no-previous .signal) ok) k g);
+      rows-leave =
+          λ k g.
+          sym (before-suc s (final-samples s t ds) no-previous k)
+          ∙ ap (after (stored-settings s)) (sym (row-read table k _ (ap (λ (l : List ℤ). take row-size (drop (k * row-size) l)) h ∙ q .rows k g)));
       state-is = e ∙ ap (λ (l : Left). l .track) (equation s ok t ds);
       table-is = h ∙ ap (λ (l : Left). l .table) (equation s ok t ds);
       cuts-free = λ u es a. rw (e, h) (same-rows s ok t u ds es (ap (λ (k : List ℕ). accepted-samples k ds) (sym n) ∙ a));
     }
 
 -- a run with settings that are accepted, and one with settings that are refused
-module _ (s : Settings) (t : List ℤ) (cuts : List ℕ) (x : List ℤ) (said : List ℕ) where
+module _ (s : TrackSettings) (t : List ℤ) (cuts : List ℕ) (x : List ℤ) (said : List ℕ) where
   abbrev made : List (List ℤ)
   made = deliveries s cuts x (length said)
 
-  module _ (ok : settings-no s ≡ 0) where
+  module _ (ok : start-no s ≡ 0) where
     pub made-parts : made ≡ parts (take (length said) cuts) x
     unfolding deliveries
-    made-parts = rw (eq-eqb (settings-no s) 0 ok)
+    made-parts = rw (eq-eqb (start-no s) 0 ok)
 
     pub length-made : length made ≡ min (length said) (length cuts)
     length-made = ap length made-parts ∙ length-parts (take (length said) cuts) x ∙ length-take (length said) cuts
@@ -153,10 +158,10 @@ module _ (s : Settings) (t : List ℤ) (cuts : List ℕ) (x : List ℤ) (said : 
           (take-at front (drop n said) (length made) (ap length numbers ∙ length-said (start-call s .track) t made) ∙ numbers)
           same-table
 
-  module _ (wrong : settings-no s ≡ 0 → ⊥) where
+  module _ (wrong : start-no s ≡ 0 → ⊥) where
     pub made-none : made ≡ []
     unfolding deliveries
-    made-none = rw (ne-eqb (settings-no s) 0 wrong)
+    made-none = rw (ne-eqb (start-no s) 0 wrong)
 
     pub refused : (r : Ran) → r .answer ≡ start-call s .answer → r .track ≡ start-call s .track → run-outcome r said t ≡ run-call s t made said
     unfolding run-call chain answer-nos

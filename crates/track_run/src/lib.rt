@@ -5,14 +5,14 @@ ghost use Prim.Native.Nat.{min};
 ghost use lib.IntN.{pos};
 ghost use lib.ListN.{length};
 ghost use Rattle.answers.specs.Answer.{answer-numbers};
-ghost use Rattle.pitch_settings.specs.Settings.{settings-no};
+ghost use Rattle.pitch_track.specs.Step.{start-no};
 ghost use Rattle.track_paper.specs.Paper.{track-answer-numbers};
 ghost use Rattle.track_chain.specs.Chain.{answer-nos, chain};
 ghost use Rattle.track_run.specs.Run.{parts, deliveries, run-outcome, run-call, EndsOnPaper};
-use pitch_settings::Settings;
 use pitch_track::Track;
 use track_paper::TrackAnswer;
 use track_paper::answer_number;
+use track_settings::TrackSettings;
 
 // What a whole run says: the answer of its start, and the track at its end.
 pub struct Ran {
@@ -61,18 +61,18 @@ fn deliver_parts(
 
 // A whole run: a fresh start, then the parts of `samples` whose lengths are `cuts`, as many as `said` has places. Refused settings make no delivery.
 pub fn run(
-    s: Settings,
+    k: TrackSettings,
     samples: &[i16],
     cuts: &[usize],
     table: &mut [i32],
     said: &mut [usize],
 ) -> Ran
     ensures { λ r. ⌜ run-outcome r (now (said .exit)) (now (table .exit))
-        ≡ run-call s (now (table .entry)) (deliveries s (now (cuts .entry)) (now (samples .entry)) (length (now (said .entry)))) (now (said .entry)) ⌝ }
-    ensures { λ r. ⌜ EndsOnPaper s (now (table .entry)) (deliveries s (now (cuts .entry)) (now (samples .entry)) (length (now (said .entry)))) (now (said .exit)) r (now (table .exit)) ⌝ }
-    ensures { λ r. ⌜ track-answer-numbers (r .answer) ≡ answer-numbers (settings-no s) (pos 0 ∷ []) ⌝ }
+        ≡ run-call k (now (table .entry)) (deliveries k (now (cuts .entry)) (now (samples .entry)) (length (now (said .entry)))) (now (said .entry)) ⌝ }
+    ensures { λ r. ⌜ EndsOnPaper k (now (table .entry)) (deliveries k (now (cuts .entry)) (now (samples .entry)) (length (now (said .entry)))) (now (said .exit)) r (now (table .exit)) ⌝ }
+    ensures { λ r. ⌜ track-answer-numbers (r .answer) ≡ answer-numbers (start-no k) (pos 0 ∷ []) ⌝ }
 {
-    let started = Track::start(s);
+    let started = Track::start(k);
     let answer = started.answer;
     let track = started.track;
     if answer_number(answer) != 0 {

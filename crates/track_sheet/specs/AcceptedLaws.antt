@@ -14,17 +14,20 @@ use mir.Syntax.{w32}
 use mir.Val.{SFits}
 use Rattle.lists.specs.Fill.{tabulate}
 use Rattle.lists.specs.FillLaws.{length-tabulate, getD-tabulate, tabulate-ext}
-use Rattle.pitch_settings.specs.declared.Settings.{Settings}
+use Rattle.track_settings.specs.declared.TrackSettings.{TrackSettings}
+use Rattle.track_settings.specs.TrackSettings.{stored-settings, row-settings}
+use Rattle.track_settings.specs.TrackSettingsLaws.{known, row-no, row-length}
+use Rattle.pitch_track.specs.Step.{start-no}
 use Rattle.pitch_settings.specs.Settings.{settings-no, held-no, frame-length, hop-length}
 use Rattle.pitch_settings.specs.SettingsLaws.{analysed-held, accepted-settings}
 use Rattle.pitch_table.specs.declared.Row.{Row}
-use Rattle.pitch_table.specs.Row.{row-size, most-frames, numbers, row-at}
+use Rattle.pitch_table.specs.Row.{row-size, most-frames, numbers, row-at, pair-lag, voiced-row}
 use Rattle.track_paper.specs.Paper.{F, no-previous, window, previous, paper-row, paper-numbers, paper-no, joined-by, joined-samples, frames-done}
 use Rattle.track_chain.specs.Chain.{run-from-start, final-samples}
 use Rattle.track_paper.specs.FramesLaws.{lt-or-le, short, fits}
 use Rattle.track_paper.specs.RowsLaws.{row-read}
 use Rattle.track_chain.proofs.OnPaper.{reached, on-paper}
-use Rattle.sheet_rows.specs.Rows.{row-holds}
+use Rattle.sheet_rows.specs.Rows.{row-of, row-holds}
 use Rattle.sheet_sections.specs.Sheet.{sheet, sheet-length, rows-of}
 use Rattle.sheet_page.specs.Page.{numbers-of}
 use Rattle.sheet_page.specs.PageLaws.{numbers-append}
@@ -34,144 +37,147 @@ use Rattle.pitch_sheet.specs.Calls.{whole-rows, rows-hold, wrote, write-call, W
 use Rattle.pitch_sheet.specs.CallsLaws.{hold-all, no-room, no-refusal, write-done}
 use Rattle.pitch_sheet.specs.Holds.{no-row, Holds}
 use Rattle.pitch_sheet.specs.RoundTripLaws.{round-trip}
-use Rattle.track_sheet.specs.Accepted.{stored-settings, paper-rows, paper-sheet, left-no, WrittenOn, AcceptedByWrite}
+use Rattle.track_sheet.specs.Accepted.{paper-rows, paper-sheet, left-no, WrittenOn, AcceptedByWrite}
 use Rattle.track_sheet.specs.RowLaws.{frame-holds, frame-correlation}
 
 -- ---- the settings that are stored
 
-module _ (s : Settings) where
+module _ (k : TrackSettings) where
   -- a sheet can hold them where they are analysed
-  stored-held : settings-no s ≡ 0 → held-no (stored-settings s) ≡ 0
-  unfolding stored-settings
-  stored-held h = analysed-held s h
+  stored-held : settings-no (stored-settings k) ≡ 0 → held-no (stored-settings k) ≡ 0
+  stored-held h = analysed-held (stored-settings k) h
 
-  stored-fits : SFits w32 (s .thres1) → SFits w32 (s .thres2) → SFits w32 (stored-settings s .thres1) × SFits w32 (stored-settings s .thres2)
-  unfolding stored-settings
-  stored-fits a b = (a, b)
-
-  -- and with them the rows that it can hold with the settings themselves
-  stored-row : (r : Row) → row-holds s r ≡ true → row-holds (stored-settings s) r ≡ true
-  unfolding stored-settings
-  stored-row r h = h
+  -- and with them the rows that it can hold with the settings of a row's own frame
+  stored-row : (type : ℤ) (r : Row) → row-holds (row-settings k type) r ≡ true → row-holds (stored-settings k) r ≡ true
+  unfolding stored-settings row-settings row-holds row-of voiced-row pair-lag
+  stored-row type r h = h
 
 -- ---- the rows on paper
 
-module _ (s : Settings) (h : settings-no s ≡ 0) (j : List ℤ) where
-  window-length : (i : ℕ) → i < frames-done s j → length (window s j i) ≡ frame-length s
+module _ (k : TrackSettings) (h : settings-no (stored-settings k) ≡ 0) (j : List ℤ) where
+  window-length : (i : ℕ) → i < frames-done (stored-settings k) j → length (window (stored-settings k) j i) ≡ frame-length (stored-settings k)
   unfolding window
   window-length i l =
-      let a = accepted-settings s h in
-      let inside = fits (frame-length s) (hop-length s) (a .some) (a .within) (length j) i l in
-      length-take-le (frame-length s) (drop (i * hop-length s) j) (omega (arith, length-drop (i * hop-length s) j, inside))
+      let a = accepted-settings (stored-settings k) h in
+      let inside = fits (frame-length (stored-settings k)) (hop-length (stored-settings k)) (a .some) (a .within) (length j) i l in
+      length-take-le (frame-length (stored-settings k)) (drop (i * hop-length (stored-settings k)) j) (omega (arith, length-drop (i * hop-length (stored-settings k)) j, inside))
 
-  row-paper-holds : (i : ℕ) → i < frames-done s j → row-holds (stored-settings s) (paper-row s j no-previous i) ≡ true
+  row-paper-holds : (i : ℕ) → i < frames-done (stored-settings k) j → row-holds (stored-settings k) (paper-row k j no-previous i) ≡ true
   unfolding paper-row
-  row-paper-holds i l = stored-row s (paper-row s j no-previous i) (frame-holds s (window s j i) (previous s j no-previous i .lag) (previous s j no-previous i .correlation) h (window-length i l))
+  row-paper-holds i l =
+      let p = previous k j no-previous i in
+      stored-row k (p .signal) (paper-row k j no-previous i)
+      (frame-holds (row-settings k (p .signal)) (window (stored-settings k) j i) (p .lag) (p .correlation) (row-no k (p .signal) ∙ h) (window-length i l ∙ sym (row-length k (p .signal))))
 
-  row-paper-fits : (i : ℕ) → i < frames-done s j → SFits w32 (paper-row s j no-previous i .correlation)
+  row-paper-fits : (i : ℕ) → i < frames-done (stored-settings k) j → SFits w32 (paper-row k j no-previous i .correlation)
   unfolding paper-row
-  row-paper-fits i l = frame-correlation s (window s j i) (previous s j no-previous i .lag) (previous s j no-previous i .correlation) h (window-length i l)
+  row-paper-fits i l =
+      let p = previous k j no-previous i in
+      frame-correlation (row-settings k (p .signal)) (window (stored-settings k) j i) (p .lag) (p .correlation) (row-no k (p .signal) ∙ h) (window-length i l ∙ sym (row-length k (p .signal)))
 
-  count : length (paper-rows s j) ≡ frames-done s j
+  count : length (paper-rows k j) ≡ frames-done (stored-settings k) j
   unfolding paper-rows
-  count = length-tabulate _ (frames-done s j)
+  count = length-tabulate _ (frames-done (stored-settings k) j)
 
-  row-is : (i : ℕ) → i < frames-done s j → getD (paper-rows s j) i no-row ≡ paper-row s j no-previous i
+  row-is : (i : ℕ) → i < frames-done (stored-settings k) j → getD (paper-rows k j) i no-row ≡ paper-row k j no-previous i
   unfolding paper-rows
-  row-is i l = getD-tabulate _ (frames-done s j) i no-row l
+  row-is i l = getD-tabulate _ (frames-done (stored-settings k) j) i no-row l
 
   -- a sheet can hold them
-  paper-holds : SFits w32 (s .thres1) → SFits w32 (s .thres2) → frames-done s j ≤ most-frames → Holds (stored-settings s) (paper-rows s j)
+  paper-holds : SFits w32 (stored-settings k .thres1) → SFits w32 (stored-settings k .thres2) → frames-done (stored-settings k) j ≤ most-frames → Holds (stored-settings k) (paper-rows k j)
   paper-holds a b few =
       record {
-        settings = stored-held s h;
-        thres1 = stored-fits s a b .0;
-        thres2 = stored-fits s a b .1;
+        settings = stored-held k h;
+        thres1 = a;
+        thres2 = b;
         few = omega (arith, count);
-        rows = λ i l. let k : i < frames-done s j = omega (arith, count) in rw (row-is i k) (row-paper-holds i k);
-        correlations = λ i l. let k : i < frames-done s j = omega (arith, count) in rw (row-is i k) (row-paper-fits i k);
+        rows = λ i l. let k : i < frames-done (stored-settings k) j = omega (arith, count) in rw (row-is i k) (row-paper-holds i k);
+        correlations = λ i l. let k : i < frames-done (stored-settings k) j = omega (arith, count) in rw (row-is i k) (row-paper-fits i k);
       }
 
 -- their numbers, row after row
-numbers-are : (s : Settings) (j : List ℤ) (n : ℕ) → numbers-of (tabulate (paper-row s j no-previous) n) ≡ paper-numbers s j no-previous n
+numbers-are : (k : TrackSettings) (j : List ℤ) (n : ℕ) → numbers-of (tabulate (paper-row k j no-previous) n) ≡ paper-numbers k j no-previous n
 unfolding tabulate numbers-of paper-numbers
-numbers-are s j zero = refl
-numbers-are s j (suc n) = numbers-append (tabulate (paper-row s j no-previous) n) (paper-row s j no-previous n ∷ []) ∙ ap (λ (l : List ℤ). l ++ numbers (paper-row s j no-previous n)) (numbers-are s j n)
+numbers-are k j zero = refl
+numbers-are k j (suc n) = numbers-append (tabulate (paper-row k j no-previous) n) (paper-row k j no-previous n ∷ []) ∙ ap (λ (l : List ℤ). l ++ numbers (paper-row k j no-previous n)) (numbers-are k j n)
 
 -- the sheet on paper reads back to them
-paper-reads : (s : Settings) (h : settings-no s ≡ 0) (j into : List ℤ) → SFits w32 (s .thres1) → SFits w32 (s .thres2) → frames-done s j ≤ most-frames → frames-done s j ≤ whole-rows into
-    → read-call (paper-sheet s j) into ≡ got (Read (stored-settings s) (frames-done s j)) (paper-numbers s j no-previous (frames-done s j) ++ drop (frames-done s j * row-size) into)
+paper-reads : (k : TrackSettings) (h : settings-no (stored-settings k) ≡ 0) (j into : List ℤ) → SFits w32 (stored-settings k .thres1) → SFits w32 (stored-settings k .thres2) → frames-done (stored-settings k) j ≤ most-frames → frames-done (stored-settings k) j ≤ whole-rows into
+    → read-call (paper-sheet k j) into ≡ got (Read (stored-settings k) (frames-done (stored-settings k) j)) (paper-numbers k j no-previous (frames-done (stored-settings k) j) ++ drop (frames-done (stored-settings k) j * row-size) into)
 unfolding paper-sheet paper-rows
-paper-reads s h j into a b few room =
-    let c = count s h j in
-    let n = numbers-are s j (frames-done s j) in
-    round-trip .sheet-reads (stored-settings s) (tabulate (paper-row s j no-previous) (frames-done s j)) into (paper-holds s h j a b few) (omega (arith, c))
-    ∙ (λ u. got (Read (stored-settings s) (c u)) (n u ++ drop (c u * row-size) into))
+paper-reads k h j into a b few room =
+    let c = count k h j in
+    let n = numbers-are k j (frames-done (stored-settings k) j) in
+    round-trip .sheet-reads (stored-settings k) (tabulate (paper-row k j no-previous) (frames-done (stored-settings k) j)) into (paper-holds k h j a b few) (omega (arith, c))
+    ∙ (λ u. got (Read (stored-settings k) (c u)) (n u ++ drop (c u * row-size) into))
 
 -- ---- what a chain of deliveries leaves
 
-module _ (s : Settings) (h : settings-no s ≡ 0) (t : List ℤ) (ds : List (List ℤ)) where
+module _ (k : TrackSettings) (right : start-no k ≡ 0) (t : List ℤ) (ds : List (List ℤ)) where
+  h : settings-no (stored-settings k) ≡ 0
+  h = known k (no-previous .signal) right
+
   abbrev J : List ℤ
-  J = final-samples s t ds
+  J = final-samples k t ds
 
   abbrev frames : ℕ
-  frames = run-from-start s t ds .track .frames
+  frames = run-from-start k t ds .track .frames
 
   abbrev left : List ℤ
-  left = run-from-start s t ds .table
+  left = run-from-start k t ds .table
 
-  done : frames ≡ frames-done s J
-  done = on-paper s h t ds .frames
+  done : frames ≡ frames-done (stored-settings k) J
+  done = on-paper k right t ds .frames
 
   few : frames ≤ most-frames
-  few = omega (arith, done, reached s h t ds .few)
+  few = omega (arith, done, reached k right t ds .few)
 
   whole : frames ≤ whole-rows left
-  whole = let m : length left ≡ length t = on-paper s h t ds .size in omega (arith, done, reached s h t ds .fit)
+  whole = let m : length left ≡ length t = on-paper k right t ds .size in omega (arith, done, reached k right t ds .fit)
 
-  row-left : (i : ℕ) → i < frames → row-at left i ≡ paper-row s J no-previous i
-  row-left i l = row-read left i (paper-row s J no-previous i) (on-paper s h t ds .rows i (omega (arith, done)))
+  row-left : (i : ℕ) → i < frames → row-at left i ≡ paper-row k J no-previous i
+  row-left i l = row-read left i (paper-row k J no-previous i) (on-paper k right t ds .rows i (omega (arith, done)))
 
-  rows-left : rows-of left frames ≡ paper-rows s J
+  rows-left : rows-of left frames ≡ paper-rows k J
   unfolding rows-of paper-rows
-  rows-left = tabulate-ext frames row-left ∙ ap (tabulate (paper-row s J no-previous)) done
+  rows-left = tabulate-ext frames row-left ∙ ap (tabulate (paper-row k J no-previous)) done
 
-  sheet-left : sheet (stored-settings s) (rows-of left frames) ≡ paper-sheet s J
+  sheet-left : sheet (stored-settings k) (rows-of left frames) ≡ paper-sheet k J
   unfolding paper-sheet
-  sheet-left = ap (sheet (stored-settings s)) rows-left
+  sheet-left = ap (sheet (stored-settings k)) rows-left
 
-  hold : rows-hold (stored-settings s) left frames ≡ true
-  hold = hold-all (stored-settings s) left frames (λ i l. ap (row-holds (stored-settings s)) (row-left i l) ∙ row-paper-holds s h J i (omega (arith, done)))
+  hold : rows-hold (stored-settings k) left frames ≡ true
+  hold = hold-all (stored-settings k) left frames (λ i l. ap (row-holds (stored-settings k)) (row-left i l) ∙ row-paper-holds k h J i (omega (arith, done)))
 
-  enough : (room : ℕ) → length (paper-sheet s J) ≤ room → left-no s t ds room ≡ 0
-  enough room l = no-refusal (stored-settings s) frames left room (stored-held s h) few {m = frames} (omega (arith, whole)) hold whole (omega (arith, ap length sheet-left))
+  enough : (room : ℕ) → length (paper-sheet k J) ≤ room → left-no k t ds room ≡ 0
+  enough room l = no-refusal (stored-settings k) frames left room (stored-held k h) few {m = frames} (omega (arith, whole)) hold whole (omega (arith, ap length sheet-left))
 
-  short-page : (room : ℕ) → room < length (paper-sheet s J) → left-no s t ds room ≡ 8
-  short-page room l = no-room (stored-settings s) frames left room (stored-held s h) few {m = frames} (omega (arith, whole)) hold whole (omega (arith, ap length sheet-left))
+  short-page : (room : ℕ) → room < length (paper-sheet k J) → left-no k t ds room ≡ 8
+  short-page room l = no-room (stored-settings k) frames left room (stored-held k h) few {m = frames} (omega (arith, whole)) hold whole (omega (arith, ap length sheet-left))
 
-  written : (page : List ℕ) → length (paper-sheet s J) ≤ length page → WrittenOn s t ds page
+  written : (page : List ℕ) → length (paper-sheet k J) ≤ length page → WrittenOn k t ds page
   written page l =
-      write-done (stored-settings s) frames left page (enough (length page) l)
+      write-done (stored-settings k) frames left page (enough (length page) l)
       ∙ ap (λ (b : List ℕ). wrote (Written (length b)) (b ++ drop (length b) page)) sheet-left
 
-  longest : length (paper-sheet s J) ≤ sheet-length most-frames most-frames
+  longest : length (paper-sheet k J) ≤ sheet-length most-frames most-frames
   unfolding paper-sheet
-  longest = round-trip .longest (stored-settings s) (paper-rows s J) (omega (arith, count s h J, reached s h t ds .few))
+  longest = round-trip .longest (stored-settings k) (paper-rows k J) (omega (arith, count k h J, reached k right t ds .few))
 
-  reads-back : SFits w32 (s .thres1) → SFits w32 (s .thres2) → (page : List ℕ) → length (paper-sheet s J) ≤ length page → (into : List ℤ) → frames-done s J ≤ whole-rows into
-      → read-call (take (length (paper-sheet s J)) (write-call (stored-settings s) frames left page .page)) into ≡ got (Read (stored-settings s) (frames-done s J)) (paper-numbers s J no-previous (frames-done s J) ++ drop (frames-done s J * row-size) into)
+  reads-back : SFits w32 (stored-settings k .thres1) → SFits w32 (stored-settings k .thres2) → (page : List ℕ) → length (paper-sheet k J) ≤ length page → (into : List ℤ) → frames-done (stored-settings k) J ≤ whole-rows into
+      → read-call (take (length (paper-sheet k J)) (write-call (stored-settings k) frames left page .page)) into ≡ got (Read (stored-settings k) (frames-done (stored-settings k) J)) (paper-numbers k J no-previous (frames-done (stored-settings k) J) ++ drop (frames-done (stored-settings k) J * row-size) into)
   reads-back a b page l into g =
-      let bytes = paper-sheet s J in
+      let bytes = paper-sheet k J in
       ap (λ (o : WriteOutcome). read-call (take (length bytes) (o .page)) into) (written page l)
       ∙ ap (λ (p : List ℕ). read-call p into) (take-at bytes (drop (length bytes) page) (length bytes) refl)
-      ∙ paper-reads s h J into a b (reached s h t ds .few) g
+      ∙ paper-reads k h J into a b (reached k right t ds .few) g
 
-  pub accepted-by-write : AcceptedByWrite s t ds
+  pub accepted-by-write : AcceptedByWrite k t ds
   accepted-by-write = record {
     room-enough = enough;
     room-short = short-page;
     never-nine = λ room e.
-        ⊎-elim (λ l. omega (arith, short-page room l)) (λ l. omega (arith, enough room l)) (lt-or-le room (length (paper-sheet s J)));
+        ⊎-elim (λ l. omega (arith, short-page room l)) (λ l. omega (arith, enough room l)) (lt-or-le room (length (paper-sheet k J)));
     written = written;
     written-on-longest = λ page l. written page (omega (arith, longest));
     reads-back = reads-back;

@@ -22,13 +22,19 @@ agrees-requires : tie.Need-agrees-requires
 agrees-requires c κs = (whole (c .before .before .before .before), search needs)
 
 slice-aggregate-agrees-2 : tie.Need-slice-aggregate-agrees-2
-slice-aggregate-agrees-2 c = whole (c .before .before .before .before)
+slice-aggregate-agrees-2 c = whole (c .before .before .before .before .before)
 
-returns-3 : tie.Need-returns-3
-returns-3 c = search needs
+agrees-requires-2 : tie.Need-agrees-requires-2
+agrees-requires-2 c κs = (whole (c .before .before .before .before .before), search needs)
+
+slice-aggregate-agrees-3 : tie.Need-slice-aggregate-agrees-3
+slice-aggregate-agrees-3 c = whole (c .before .before .before .before .before)
+
+returns-4 : tie.Need-returns-4
+returns-4 c = search needs
 
 pub record-agrees-spec : {M : Type 1} → statement M
 record-agrees-spec =
     tie.close
     (tie.spec (λ c κs. search needs) (λ c. search needs) slice-aggregate-read-full (λ c κs. search needs) (λ c. search needs) slice-aggregate-agrees
-    agrees-requires (λ c. search needs) slice-aggregate-agrees-2 (λ c κs. search needs) returns-3)
+    agrees-requires (λ c. search needs) slice-aggregate-agrees-2 agrees-requires-2 (λ c. search needs) slice-aggregate-agrees-3 (λ c κs. search needs) returns-4)

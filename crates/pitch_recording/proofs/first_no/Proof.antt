@@ -18,7 +18,11 @@ returns-3 c = rw (c .before .before .if1 .left, eq-eqb (c .before .before .befor
 
 returns-4 : tie.Need-returns-4
 unfolding first-recording-refusal
-returns-4 c = rw (c .before .before .if1 .left, eq-eqb (c .before .before .before .args .wrong) 0 (c .before .if2 .left), c .if3 .left)
+returns-4 c = rw (c .before .before .before .if1 .left, eq-eqb (c .before .before .before .before .args .wrong) 0 (c .before .before .if2 .left), c .before .if3 .left, c .if4 .taken)
+
+returns-5 : tie.Need-returns-5
+unfolding first-recording-refusal
+returns-5 c = rw (c .before .before .before .if1 .left, eq-eqb (c .before .before .before .before .args .wrong) 0 (c .before .before .if2 .left), c .before .if3 .left, c .if4 .left)
 
 pub first-no-spec : {M : Type 1} → statement M
-first-no-spec = tie.close (tie.spec returns returns-2 returns-3 returns-4)
+first-no-spec = tie.close (tie.spec returns returns-2 returns-3 returns-4 returns-5)

@@ -14,7 +14,7 @@ track-text-requires c κs =
 slice-aggregate-write-output-2 : tie.Need-slice-aggregate-write-output-2
 slice-aggregate-write-output-2 c =
     let w = c .before .before .before .before .before .track-text in
-    sym (length-take-le (w .result) (w .last .1 .1 .1 .1 .0) (omega arith))
+    sym (length-take-le (w .result) (w .last .1 .1 .1 .1 .1 .0) (omega arith))
 
 returns-2 : tie.Need-returns-2
 returns-2 c = search needs

@@ -7,7 +7,7 @@ use native.Mathlib.Omega.{arith}
 use lib.IntN.{ℤ}
 use lib.ListN.{length, take, drop, length-append, length-drop}
 use lib.Seq.{length-take-le}
-use Rattle.pitch_settings.specs.Settings.{settings-no}
+use Rattle.pitch_track.specs.Step.{start-no}
 use Rattle.pitch_track.specs.declared.Started.{Started}
 use Rattle.track_paper.specs.Paper.{answer-no}
 use Rattle.pitch_track.proofs.Deliver.{start-number}
@@ -18,10 +18,10 @@ use Rattle.track_run.proofs.run.Statement.{statement}
 use Rattle.track_run.proofs.run.Tie as tie
 
 -- the number that the start said
-number-is : (c : tie.After-answer-number) → c .answer-number .result ≡ settings-no (c .before .before .before .before .before .args .s)
+number-is : (c : tie.After-answer-number) → c .answer-number .result ≡ start-no (c .before .before .before .before .before .args .k)
 number-is c =
     let s = c .before .before .before .before .before in
-    c .answer-number .ensures ∙ ap (λ (r : Started). answer-no (r .answer)) (c .before .before .start .ensures .0) ∙ start-number (s .args .s)
+    c .answer-number .ensures ∙ ap (λ (r : Started). answer-no (r .answer)) (c .before .before .start .ensures .0) ∙ start-number (s .args .k)
 
 start-requires : tie.Need-start-requires
 start-requires c κs = search needs
@@ -34,8 +34,8 @@ returns c =
     let s = c .before .before .before .before .before .before in
     let o = c .before .before .before .start .ensures in
     let e = o .0 in
-    let wrong : settings-no (s .args .s) ≡ 0 → ⊥ = λ z. omega (arith, number-is (c .before), c .if1 .taken) in (
-      refused (s .args .s) (s .args .table .now) (s .args .cuts .now) (s .args .samples .now) (s .args .said .now) wrong _ (ap (λ (r : Started). r .answer) e) (ap (λ (r : Started). r .track) e),
+    let wrong : start-no (s .args .k) ≡ 0 → ⊥ = λ z. omega (arith, number-is (c .before), c .if1 .taken) in (
+      refused (s .args .k) (s .args .table .now) (s .args .cuts .now) (s .args .samples .now) (s .args .said .now) wrong _ (ap (λ (r : Started). r .answer) e) (ap (λ (r : Started). r .track) e),
       (λ z. absurd (wrong z), o .1),
     )
 
@@ -50,11 +50,11 @@ module _ (c : tie.After-lesser) where
   abbrev n : ℕ
   n = c .lesser .result
 
-  ok : settings-no (start .args .s) ≡ 0
+  ok : start-no (start .args .k) ≡ 0
   ok = omega (arith, number-is (c .before .before), c .before .if1 .left)
 
   abbrev made : List (List ℤ)
-  made = deliveries (start .args .s) (start .args .cuts .now) (start .args .samples .now) (length (start .args .said .now))
+  made = deliveries (start .args .k) (start .args .cuts .now) (start .args .samples .now) (length (start .args .said .now))
 
   places : n ≤ length (start .args .said .now)
   places = omega (arith, c .lesser .ensures)
@@ -63,15 +63,15 @@ module _ (c : tie.After-lesser) where
   cuts = omega (arith, c .lesser .ensures)
 
   all : n ≡ length made
-  all = c .lesser .ensures ∙ sym (length-made (start .args .s) (start .args .table .now) (start .args .cuts .now) (start .args .samples .now) (start .args .said .now) ok)
+  all = c .lesser .ensures ∙ sym (length-made (start .args .k) (start .args .table .now) (start .args .cuts .now) (start .args .samples .now) (start .args .said .now) ok)
 
   parts-are : parts (take n (start .args .cuts .now)) (start .args .samples .now) ≡ made
   parts-are =
       ap (λ (l : List ℕ). parts l (start .args .samples .now)) (ap (λ (m : ℕ). take m (start .args .cuts .now)) (c .lesser .ensures) ∙ take-min (length (start .args .said .now)) (start .args .cuts .now))
-      ∙ sym (made-parts (start .args .s) (start .args .table .now) (start .args .cuts .now) (start .args .samples .now) (start .args .said .now) ok)
+      ∙ sym (made-parts (start .args .k) (start .args .table .now) (start .args .cuts .now) (start .args .samples .now) (start .args .said .now) ok)
 
   -- the chain of them
-  chain-is : chain (c .before .before .before .before .start .result .track) (start .args .table .now) (parts (take n (start .args .cuts .now)) (start .args .samples .now)) ≡ run-from-start (start .args .s) (start .args .table .now) made
+  chain-is : chain (c .before .before .before .before .start .result .track) (start .args .table .now) (parts (take n (start .args .cuts .now)) (start .args .samples .now)) ≡ run-from-start (start .args .k) (start .args .table .now) made
   chain-is = λ i. chain (c .before .before .before .before .start .ensures .0 i .track) (start .args .table .now) (parts-are i)
 
 slice-aggregate-deliver-parts : tie.Need-slice-aggregate-deliver-parts
@@ -107,8 +107,8 @@ returns-2 c =
     let track = o .0 ∙ ap (λ (l : Left). l .track) (chain-is k) in
     let numbers = o .1 .0 ∙ ap (λ (l : Left). answer-nos (l .said)) (chain-is k) in
     let table = o .1 .1 ∙ ap (λ (l : Left). l .table) (chain-is k) in (
-      ran (a .s) (a .table .now) (a .cuts .now) (a .samples .now) (a .said .now) (ok k) (n k) (all k) _ _ _ e track numbers table,
-      (ends (a .s) (a .table .now) (a .cuts .now) (a .samples .now) (a .said .now) (ok k) (n k) (all k) _ _ _ e track numbers table, begun .1),
+      ran (a .k) (a .table .now) (a .cuts .now) (a .samples .now) (a .said .now) (ok k) (n k) (all k) _ _ _ e track numbers table,
+      (ends (a .k) (a .table .now) (a .cuts .now) (a .samples .now) (a .said .now) (ok k) (n k) (all k) _ _ _ e track numbers table, begun .1),
     )
 
 pub run-spec : {M : Type 1} → statement M

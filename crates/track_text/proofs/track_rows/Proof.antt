@@ -20,7 +20,7 @@ returns : tie.Need-returns
 returns c =
     let s = c .before .before .before .before .before .before in
     let d = c .before .before .deliver in
-    tracked (s .args .s) (s .args .table .now) (s .args .x .now) (s .pre .0) (s .pre .1) (s .pre .2) (delivery-outcome (d .result) (d .last .1 .1 .0))
+    tracked (s .args .k) (s .args .table .now) (s .args .x .now) (s .pre .0) (s .pre .1) (s .pre .2) (delivery-outcome (d .result) (d .last .1 .1 .0))
     (d .ensures .0 ∙ ap (λ (t : Started). deliver-call (t .track) (s .args .table .now) (s .args .x .now)) (c .before .before .before .before .before .start .ensures .0))
 
 pub track-rows-spec : {M : Type 1} → statement M

@@ -22,7 +22,7 @@ module _ (c : tie.After-take-recording) where
 
   -- the samples at the end
   abbrev left : List ℤ
-  left = c .take-recording .last .1 .1 .0
+  left = c .take-recording .last .1 .1 .1 .0
 
 -- an input that is refused, with any bytes after those at hand
 module _ (c : tie.After-taken) where
@@ -30,8 +30,8 @@ module _ (c : tie.After-taken) where
   refused-at = c .before .before .before
 
   refused : (rest : List ℕ) → length rest ≡ start refused-at .args .more
-      → IsRefused (start refused-at .args .input .now ++ rest) (start refused-at .args .samples .now) (c .taken .given .0 .0) (left refused-at)
-  refused rest e = is-refused _ _ _ _ (refused-at .take-recording .ensures rest e) _ (c .taken .given .1)
+      → IsRefused (start refused-at .args .head) (start refused-at .args .input .now ++ rest) (start refused-at .args .samples .now) (c .taken .given .0 .0) (left refused-at)
+  refused rest e = is-refused _ _ _ _ _ (refused-at .take-recording .ensures rest e) _ (c .taken .given .1)
 
 -- one that is taken
 module _ (c : tie.After-taken2) where
@@ -42,14 +42,14 @@ module _ (c : tie.After-taken2) where
   n = c .taken2 .given .0 .1 .0
 
   taken : (rest : List ℕ) → length rest ≡ start taken-at .args .more
-      → IsTaken (start taken-at .args .input .now ++ rest) (start taken-at .args .samples .now) (c .taken2 .given .0 .0) n (left taken-at)
-  taken rest e = is-taken _ _ _ _ (taken-at .take-recording .ensures rest e) _ _ (c .taken2 .given .1)
+      → IsTaken (start taken-at .args .head) (start taken-at .args .input .now ++ rest) (start taken-at .args .samples .now) (c .taken2 .given .0 .0) n (left taken-at)
+  taken rest e = is-taken _ _ _ _ _ (taken-at .take-recording .ensures rest e) _ _ (c .taken2 .given .1)
 
-  any : IsTaken (start taken-at .args .input .now ++ any-rest (start taken-at .args .more)) (start taken-at .args .samples .now) (c .taken2 .given .0 .0) n (left taken-at)
+  any : IsTaken (start taken-at .args .head) (start taken-at .args .input .now ++ any-rest (start taken-at .args .more)) (start taken-at .args .samples .now) (c .taken2 .given .0 .0) n (left taken-at)
   any = taken (any-rest (start taken-at .args .more)) (length-any-rest (start taken-at .args .more))
 
   room : n ≤ length (left taken-at)
-  room = omega (arith, few-samples _ (any .known) n (any .few), taken-at .take-recording .kept .1 .1 .0, start taken-at .pre .1)
+  room = omega (arith, few-samples _ (any .analysed) n (any .few), taken-at .take-recording .kept .1 .1 .1 .0, start taken-at .pre .1)
 
 cast-put-refused : tie.Need-cast-put-refused
 cast-put-refused c = let t = c .before .before in let more = start (refused-at t) .args .more in omega (arith, refused t (any-rest more) (length-any-rest more) .small)
@@ -63,7 +63,7 @@ slice-aggregate-put-report c = sym (length-take-le _ _ (room (c .before .before)
 put-report-requires : tie.Need-put-report-requires
 put-report-requires c κs =
     let t = c .before .before .before .before in
-    (any t .known, rw (length-take-le _ _ (room t)) (any t .few), start (taken-at t) .pre .2, start (taken-at t) .pre .3)
+    (any t .accepted, rw (length-take-le _ _ (room t)) (any t .few), start (taken-at t) .pre .2, start (taken-at t) .pre .3)
 
 returns : tie.Need-returns
 unfolding track-text-call
@@ -74,9 +74,9 @@ returns c =
       λ rest e.
           let f = refused t rest e in
           let b = s .args .input .now ++ rest in
-          let q = put-as (w .0) (text-refused b _ (f .number-is) (f .some-number)) in
+          let q = put-as (w .0) (text-refused (s .args .head) b _ (f .number-is) (f .some-number)) in
           ap (λ (x : List ℤ). recording-printed (c .before .before .put-refused .result) (c .before .before .put-refused .last .0) x (s .args .table .now)) (f .samples-stay)
-          ∙ printed-refused b _ (s .args .out .now) (s .args .samples .now) (s .args .table .now) (put-count q) (put-over q (omega (arith, w .1, s .pre .3))) _ (f .number-is) (f .some-number),
+          ∙ printed-refused (s .args .head) b _ (s .args .out .now) (s .args .samples .now) (s .args .table .now) (put-count q) (put-over q (omega (arith, w .1, s .pre .3))) _ (f .number-is) (f .some-number),
       omega (arith, w .1),
     )
 
@@ -89,8 +89,8 @@ returns-2 c =
       λ rest e.
           let f = taken t rest e in
           let b = s .args .input .now ++ rest in
-          let q = put-as (w .0) (ap₂ track-report (f .settings-are) (f .front) ∙ text-report b (f .no-refusal)) in
-          printed-taken b _ (s .args .out .now) _ _ (put-count q) (put-over q (omega (arith, w .1, s .pre .3))) (f .no-refusal) (f .samples-are)
+          let q = put-as (w .0) (ap₂ track-report (f .settings-are) (f .front) ∙ text-report (s .args .head) b (f .no-refusal)) in
+          printed-taken (s .args .head) b _ (s .args .out .now) _ _ (put-count q) (put-over q (omega (arith, w .1, s .pre .3))) (f .no-refusal) (f .samples-are)
           (w .2 ∙ (λ i. paper-table (f .settings-are i) (s .args .table .now) (f .front i))),
       w .1,
     )

@@ -16,7 +16,7 @@ returns-3 c =
     let s = c .before .before .before .before .before in
     let told = s .before .u32-at2 in
     let zeros = s .before .before .u32-at in
-    agrees-at _ _ _ _ _ _ (told .ensures .0) (zeros .ensures .0) (omega arith) (omega arith) (c .before .before .before .least .ensures) (c .is-told .ensures)
+    agrees-at _ _ _ _ _ _ _ (told .ensures .0) (zeros .ensures .0) (omega arith) (omega arith) (c .before .before .before .least .ensures) (c .is-told .ensures)
 
 pub agrees-spec : {M : Type 1} → statement M
 agrees-spec =

@@ -14,7 +14,7 @@ slice-aggregate-same c = sym (length-take-le _ _ (array-share-prefix-out (c .bef
 
 returns : tie.Need-returns
 returns c = λ rest e.
-    let text = text-of _ _ _ _ _ _ _ _ (c .before .before .before .before .before .track-text .ensures .0 rest e) in
+    let text = text-of _ _ _ _ _ _ _ _ _ (c .before .before .before .before .before .track-text .ensures .0 rest e) in
     record { only = λ t. sym text ∙ c .same .ensures .0 t; where-so = λ q. c .same .ensures .1 (text ∙ q) }
 
 pub is-told-spec : {M : Type 1} → statement M
