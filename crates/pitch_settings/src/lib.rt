@@ -1,4 +1,6 @@
 // The settings of a frame, a track or a sheet: which are analysed, which a sheet can hold (refusals 1 to 3), and the sizes that they give.
+#![tactic(auto)]
+
 ghost use Rattle.std.specs.Prelude.{◌≡◌};
 ghost use Rattle.pitch_settings.specs.Settings.{rate_known, subframes_known, settings_refusal, settings_no, held_no, frame_length, hop_length};
 
