@@ -17,7 +17,8 @@ use Rattle.silk_tables.specs.Stage2Laws.{contours2_bounds}
 use Rattle.zint.specs.BoolLaws.{and_left, and_right}
 use Rattle.best.specs.Best as Best
 use Rattle.best.specs.Best.{Place, none, at, BestOf}
-use Rattle.best.specs.BestLaws.{some_find, some_none, best_outcome, BestBelow}
+use Rattle.best.specs.BestLaws.{some_find, some_none}
+use Rattle.best.proofs.BestOfLaws.{best_outcome, BestBelow}
 use Rattle.stage2_correlations.specs.Marks.{listed, measured}
 use Rattle.stage2_correlations.specs.MeaningLaws.{listed_means, measured_means}
 use Rattle.stage2_correlations.specs.Correlations.{cross2, divisor2, quotient2, zero_reached2, zero2}

@@ -12,7 +12,7 @@ use Rattle.zint.specs.ShiftLaws.{nonneg_abs}
 use Rattle.zint.specs.Wrap.{wrap}
 use Rattle.zint.specs.WrapLaws.{wrap_fits, wrap_id}
 use Rattle.best.specs.Best.{BestOf}
-use Rattle.best.specs.BestLaws.{best_at, best_ext}
+use Rattle.best.proofs.BestOfLaws.{best_at, best_ext}
 use Rattle.silk_macros.specs.Macros.{smulbb}
 use Rattle.silk_macros.specs.Log.{lin2log}
 use Rattle.silk_macros.specs.LogLaws.{lin2log_is}

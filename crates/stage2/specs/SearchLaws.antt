@@ -6,7 +6,8 @@ use Rattle.std.proofs.Math.Bool.{true, false, ◌&&◌, cond}
 use Rattle.std.proofs.Math.IntN.{pos}
 use Rattle.std.specs.Int.Signed.{lt_z, quot_z}
 use Rattle.best.specs.Best.{Place, none, at, BestOf}
-use Rattle.best.specs.BestLaws.{best_ext, some_true, some_false}
+use Rattle.best.specs.BestLaws.{some_true, some_false}
+use Rattle.best.proofs.BestOfLaws.{best_ext}
 use Rattle.best.specs.BestLaws as laws
 use Rattle.zint.specs.TestLaws.{lt_true, lt_false}
 use Rattle.lists.specs.Fill.{tabulate, filled}

@@ -17,7 +17,8 @@ use Rattle.silk_macros.specs.DivideLaws.{by_zero_is}
 use Rattle.silk_tables.specs.Tables.{in_use, offset, greatest_lag}
 use Rattle.silk_tables.specs.TableLaws.{in_use_bounds}
 use Rattle.best.specs.Best.{some, Place, none, at, best, BestOf}
-use Rattle.best.specs.BestLaws.{some_find, some_none, best_outcome, BestBelow}
+use Rattle.best.specs.BestLaws.{some_find, some_none}
+use Rattle.best.proofs.BestOfLaws.{best_outcome, BestBelow}
 use Rattle.stage3.specs.declared.Found.{Found}
 use Rattle.stage3.specs.declared.Found.TheVariants.{Pair, ZeroDivisor}
 use Rattle.stage3.specs.Pick.{Choice, first_tried, last_tried, tried, quotient_of, zero_reached3, reached, candidate, score, zero_no, candidate_no, score_no, lag_no, contour_no, pair_count, pair_at, pick}

@@ -18,7 +18,8 @@ use Rattle.zint.specs.Equal.{eq_z}
 use Rattle.silk_macros.specs.Divide.{div32_varq, quotient, by_zero}
 use Rattle.silk_macros.specs.DivideLaws.{div32_varq_fits}
 use Rattle.best.specs.Best.{Place, none, at, best}
-use Rattle.best.specs.BestLaws.{search_start, search_skip, search_better, search_kept, search_best, some_true, some_false, some_ext, best_ext}
+use Rattle.best.specs.BestLaws.{some_true, some_false, some_ext}
+use Rattle.best.proofs.BestOfLaws.{search_start, search_skip, search_better, search_kept, search_best, best_ext}
 use Rattle.best.specs.BestLaws as laws
 use Rattle.silk_macros.specs.declared.Quotient.{Quotient}
 use Rattle.silk_macros.specs.declared.Quotient.TheVariants.{Value, ZeroDivisor as ByZero}
