@@ -78,7 +78,7 @@ module _ {A : Type 0} where
   filled_turn f n l eo ev h =
       ap₂ (λ (o : List A) (a : A). set o n a) eo ev
       ∙ rw (add-one, drop-cons l n (f n))
-          (set_at (tabulate f n) (get_or l n (f n)) (drop (suc n) l) (f n) n (length_tabulate f n) ∙ sym (append_snoc (tabulate f n) (f n) (drop (suc n) l)))
+      (set_at (tabulate f n) (get_or l n (f n)) (drop (suc n) l) (f n) n (length_tabulate f n) ∙ sym (append_snoc (tabulate f n) (f n) (drop (suc n) l)))
 
   -- the part `&l[i..]`, as a callee is handed it
   pub tail_part : (i : ℕ) (l : List A) → take (length l - i) (drop i l) ≡ drop i l

@@ -1,6 +1,6 @@
 -- What settings that a sheet can hold say, and so settings that are analysed: the rate, the subframe count, the complexity, and bounds on the sizes.
-use Rattle.std.specs.Prelude.{◌≡◌, refl, Bool, true, false, ◌||◌, cond, ◌⊎◌, ℕ, ◌+◌, ◌*◌, ◌≤◌, ◌<◌, eqb, leb}
-use Rattle.std.proofs.Common.{sym, ap, ◌∙◌, inl, inr, ⊎_elim, arith, eqb-true, leb-true}
+use Rattle.std.specs.Prelude.{◌≡◌, refl, Bool, true, false, ◌||◌, cond, ◌⊎◌, ℕ, ◌≤◌, ◌<◌, eqb}
+use Rattle.std.proofs.Common.{inl, inr, ⊎_elim, arith, eqb-true, leb-true}
 use Rattle.pitch_settings.specs.declared.Settings.{Settings}
 use Rattle.pitch_settings.specs.Settings.{rate_known, subframes_known, complexity_analysed, complexity_held, settings_refusal, settings_no, held_no, frame_length, hop_length}
 

@@ -1,5 +1,5 @@
 -- What tests of order on signed numbers say: as an order, and as an order of naturals that `omega` reads (`ztests`); and the branches of a definition by a test.
-use Rattle.std.specs.Prelude.{◌≡◌, refl, Bool, true, false, not, ◌+◌, ◌<◌, ◌≤◌, T, ℤ, pos, negsuc, ◌≤ℤ◌, ◌<ℤ◌}
+use Rattle.std.specs.Prelude.{◌≡◌, Bool, true, false, not, ◌+◌, ◌<◌, ◌≤◌, T, ℤ, pos, negsuc, ◌≤ℤ◌, ◌<ℤ◌}
 use Rattle.std.proofs.Common.{sym, ap, ◌∙◌, subst, lt→ltb, leb-false}
 use Rattle.std.specs.Int.Signed.{lt_z, le_z, lt_z_yes, lt_z_no, le_z_yes}
 use mir.Val.{sel}

@@ -1,7 +1,5 @@
 -- `pitch_settings::settings_refusal` meets its contract: the tests say which case of `settings_refusal` holds.
-use mathlib.Core.Path.{◌≡◌, sym, ◌∙◌}
-use mathlib.Core.Bool.{true}
-use Rattle.pitch_settings.specs.Settings.{rate_known, subframes_known}
+use mathlib.Core.Path.{sym, ◌∙◌}
 use Rattle.pitch_settings.proofs.settings_refusal.Goals as goal
 
 pub returns-then-known : goal.returns-then-known
