@@ -1,0 +1,44 @@
+-- `silk_sigproc::energy_from` meets its contract.
+use mathlib.Core.Path.{ap, ◌∙◌}
+use mathlib.Core.List.{List}
+use lib.IntN.{ℤ}
+use mir.Syntax.{w32}
+use Rattle.zint.specs.Wrap.{wrap}
+use Rattle.zint.specs.ReadLaws.{r_got}
+use Rattle.lists.specs.FillLaws.{tail_part}
+use Rattle.silk_sigproc.specs.Dot.{dot}
+use Rattle.zint.specs.RuleLaws.{zneeds}
+use Rattle.silk_sigproc.proofs.energy_from.Goals as goal
+
+pub returns : goal.returns
+returns c =
+    let f = c.silk_inner_prod_aligned in
+    let a = c.args in
+    (r_got w32 f.type_inv (f.ensures ∙ ap (λ (x : List ℤ). wrap w32 (dot x x a.len)) (tail_part a.start a.x.now))).val
+
+pub offset_bounds-x-start : goal.offset_bounds-x-start
+offset_bounds-x-start c = search zneeds
+
+pub slice_bounds-silk_inner_prod_aligned-count : goal.slice_bounds-silk_inner_prod_aligned-count
+slice_bounds-silk_inner_prod_aligned-count c = search zneeds
+
+pub slice_bounds-silk_inner_prod_aligned-start : goal.slice_bounds-silk_inner_prod_aligned-start
+slice_bounds-silk_inner_prod_aligned-start c = search zneeds
+
+pub slice_bounds-silk_inner_prod_aligned-end : goal.slice_bounds-silk_inner_prod_aligned-end
+slice_bounds-silk_inner_prod_aligned-end c = search zneeds
+
+pub offset_bounds-x-start-2 : goal.offset_bounds-x-start-2
+offset_bounds-x-start-2 c = search zneeds
+
+pub slice_bounds-silk_inner_prod_aligned-count-2 : goal.slice_bounds-silk_inner_prod_aligned-count-2
+slice_bounds-silk_inner_prod_aligned-count-2 c = search zneeds
+
+pub slice_bounds-silk_inner_prod_aligned-start-2 : goal.slice_bounds-silk_inner_prod_aligned-start-2
+slice_bounds-silk_inner_prod_aligned-start-2 c = search zneeds
+
+pub slice_bounds-silk_inner_prod_aligned-end-2 : goal.slice_bounds-silk_inner_prod_aligned-end-2
+slice_bounds-silk_inner_prod_aligned-end-2 c = search zneeds
+
+pub silk_inner_prod_aligned-requires : goal.silk_inner_prod_aligned-requires
+silk_inner_prod_aligned-requires c = search zneeds

@@ -1,0 +1,9 @@
+-- The invariants of `xcorr_by_fours`.
+use mathlib.Core.Path.{◌≡◌}
+use Prim.Native.Nat.{◌*◌}
+use Rattle.lists.specs.Fill.{filled}
+use Rattle.silk_sigproc.specs.DotLaws.{lag_dot}
+use Rattle.silk_sigproc.proofs.xcorr_by_fours.Given as goal
+
+abbrev pub invariant-loop-k : goal.invariant-loop-k
+invariant-loop-k l = l.xcorr ≡ filled (lag_dot l.x l.y l.len) (4 * l.k) l.initial.xcorr
