@@ -1,7 +1,7 @@
 -- What a carried pair says, the test from such facts, and the answer by its tests.
-use Rattle.std.specs.Prelude.{◌≡◌, [], ◌∷◌, Bool, ℕ, ◌≤◌, ◌<◌, eqb, ltb, ℤ, pos, nat_abs, ◌≤ℤ◌, ◌<ℤ◌}
+use Rattle.std.specs.Prelude.{◌≡◌, [], ◌∷◌, Bool, ℕ, ◌≤◌, ◌<◌, eqb, ltb, ℤ, pos, nat_abs, ◌<ℤ◌}
 use Rattle.std.proofs.Math.Path.{refl, ap₂}
-use Rattle.std.proofs.Common.{ap, subst, arith}
+use Rattle.std.proofs.Common.{subst, arith}
 use Rattle.std.proofs.Math.Bool.{true, false, ◌&&◌, cond}
 use Rattle.std.specs.Int.Signed.{le_z, lt_z}
 use Rattle.answers.specs.Answer.{answer_numbers}

@@ -1,5 +1,5 @@
 -- Laws of the rebuilding: the bounds of a lag, and that the source's own assembly is the rebuilding.
-use Rattle.std.specs.Prelude.{◌≡◌, refl, Bool, true, false, ℕ, ◌+◌, ◌-◌, ◌*◌, ◌≤◌, ℤ, pos, ◌+ℤ◌, ◌≤ℤ◌}
+use Rattle.std.specs.Prelude.{◌≡◌, refl, Bool, true, false, ℕ, ◌-◌, ◌*◌, ◌≤◌, ℤ, pos, ◌+ℤ◌, ◌≤ℤ◌}
 use Rattle.std.proofs.Common.{sym, ap, arith}
 use Rattle.std.specs.Int.{w32}
 use mir.Val.{SFits, sel}
