@@ -1,4 +1,5 @@
 // Rows of a table, eight numbers each, row after row; and the row that a pair stands for.
+#![tactic(auto)]
 ghost use Rattle.std.specs.Prelude.{◌≡◌, ◌+◌, ◌*◌, ◌≤◌, length, true};
 ghost use Rattle.std.proofs.lemmas.List.Edits.{sets};
 ghost use Rattle.silk_tables.specs.Rebuild.{carried};

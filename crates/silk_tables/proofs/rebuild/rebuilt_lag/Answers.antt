@@ -56,7 +56,7 @@ unfolding held_no
 returns-then-k-nb_subfr c =
     let a = c.args in
     let no = settled a.fs_khz a.nb_subfr a.complexity a.lag_index a.contour_index a.k c.held_no-no.ensures c.if-no-ne0.false in
-    let e = by_tests a.fs_khz a.nb_subfr a.complexity a.lag_index a.contour_index a.k (eq-eqb _ 0 no) (le-ltb a.k a.nb_subfr c.if-k-nb_subfr.true) refl in
+    let e = by_tests a.fs_khz a.nb_subfr a.complexity a.lag_index a.contour_index a.k (eq-eqb _ 0 no) (le-ltb a.k a.nb_subfr (omega arith)) refl in
     record { value = e; result_value = in_numbers a.fs_khz a.nb_subfr a.complexity a.lag_index a.contour_index a.k e }
 
 pub pair_carried-requires : goal.pair_carried-requires
