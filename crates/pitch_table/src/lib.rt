@@ -1,5 +1,6 @@
 // Rows of a table, eight numbers each, row after row; and the row that a pair stands for.
 #![tactic(auto)]
+
 ghost use Rattle.std.specs.Prelude.{◌≡◌, ◌+◌, ◌*◌, ◌≤◌, length, true};
 ghost use Rattle.std.proofs.lemmas.List.Edits.{sets};
 ghost use Rattle.silk_tables.specs.Rebuild.{carried};
@@ -16,7 +17,7 @@ pub const ROW_SIZE: usize = 8;
 pub const MOST_FRAMES: usize = 4096;
 
 // A row of a table: what is said of one frame.
-#[derive(Drop)]
+#[derive(Clone, Copy)]
 pub struct Row {
     // 0 voiced, 1 unvoiced, 2 zero divisor
     pub verdict: i32,

@@ -1,0 +1,30 @@
+-- `pitch_table::put_row` meets its contract: eight stores are one `sets`.
+use mathlib.Core.Path.{◌≡◌}
+use Prim.Native.Nat.{◌^◌, ◌<◌}
+use native.Mathlib.Numerals.{towards_suc}
+use lib.IntN.{ℤ}
+use lib.Signed.{mag}
+use mir.Syntax.{w32}
+use mir.Val.{hbits, to_z, of_z}
+use Rattle.zint.specs.ReadLaws.{r_elem}
+use Rattle.pitch_table.proofs.put_row.Goals as goal
+
+-- a number of the row, as it is written
+written : (z : ℤ) → mag z < 2 ^ hbits w32 → to_z w32 (of_z w32 z) ≡ z
+written z g = (r_elem w32 z g).val
+
+pub returns : goal.returns
+returns c =
+    let r = c.args.r in
+    let g = c.struct_told-8-1.given in
+    simp (
+      towards_suc,
+      written r.verdict g.0.1,
+      written r.index g.1.0.1,
+      written r.contour g.1.1.0.1,
+      written r.correlation g.1.1.1.0.1,
+      written r.lag0 g.1.1.1.1.0.1,
+      written r.lag1 g.1.1.1.1.1.0.1,
+      written r.lag2 g.1.1.1.1.1.1.0.1,
+      written r.lag3 g.1.1.1.1.1.1.1.0.1,
+    )
