@@ -6,6 +6,7 @@ use lib.IntN.{ℤ}
 use lib.Signed.{mag}
 use mir.Syntax.{w32}
 use mir.Val.{hbits, to_z, of_z}
+use borrow.Author.Rules.{rules}
 use Rattle.zint.specs.ReadLaws.{r_elem}
 use Rattle.pitch_table.proofs.put_row.Goals as goal
 
@@ -16,15 +17,14 @@ written z g = (r_elem w32 z g).val
 pub returns : goal.returns
 returns c =
     let r = c.args.r in
-    let g = c.struct_told-8-1.given in
     simp (
       towards_suc,
-      written r.verdict g.0.1,
-      written r.index g.1.0.1,
-      written r.contour g.1.1.0.1,
-      written r.correlation g.1.1.1.0.1,
-      written r.lag0 g.1.1.1.1.0.1,
-      written r.lag1 g.1.1.1.1.1.0.1,
-      written r.lag2 g.1.1.1.1.1.1.0.1,
-      written r.lag3 g.1.1.1.1.1.1.1.0.1,
+      written r.verdict (search rules),
+      written r.index (search rules),
+      written r.contour (search rules),
+      written r.correlation (search rules),
+      written r.lag0 (search rules),
+      written r.lag1 (search rules),
+      written r.lag2 (search rules),
+      written r.lag3 (search rules),
     )
