@@ -1,4 +1,6 @@
 // The decimators of resampler.rs: half the rate, and two thirds of it.
+#![tactic(auto)]
+
 ghost use Rattle.std.specs.Prelude.{◌≡◌, ◌+◌, ◌*◌, ◌/◌, ◌≤◌, ◌<◌, length};
 ghost use Rattle.lists.specs.Fill.{filled};
 ghost use Rattle.lists.specs.Signal.{sample};
@@ -78,7 +80,7 @@ pub struct Filtered {
 
 // In what the filters at two thirds of the rate differ: by what the recursion's output is multiplied before a coefficient, how often it is itself added to the first state, and
 // the bits by which the first and the second output of a pair are rounded.
-#[derive(Drop)]
+#[derive(Clone, Copy)]
 pub struct Filter {
     pub factor: u32,
     pub adds: u32,

@@ -1,0 +1,9 @@
+-- `silk_resampler::even_output` meets its contract.
+use mir.Syntax.{w16}
+use Rattle.zint.specs.ReadLaws.{r_got}
+use Rattle.silk_resampler.specs.Down23.{even_out}
+use Rattle.silk_resampler.proofs.even_output.Goals as goal
+
+pub returns : goal.returns
+unfolding even_out
+returns c = (r_got w16 c.weighted_output.type_inv c.weighted_output.ensures).val

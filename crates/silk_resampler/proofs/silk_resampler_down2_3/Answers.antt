@@ -1,0 +1,43 @@
+-- `silk_resampler::silk_resampler_down2_3` meets its contract.
+use mathlib.Core.Path.{◌≡◌, ap, ◌∙◌}
+use mathlib.Core.List.{List}
+use Prim.Native.Nat.{ℕ, ◌+◌, ◌-◌, ◌≤◌, ◌<◌}
+use native.Mathlib.Omega.{arith}
+use borrow.Rule.Slice.PartMut.{put_mid}
+use lib.IntN.{ℤ, pos, negsuc}
+use lib.ListN.{length, take, drop, replicate, length-replicate}
+use Rattle.lists.specs.Fill.{filled}
+use Rattle.lists.specs.Signal.{sample}
+use Rattle.silk_resampler.specs.declared.Filter.{Filter}
+use Rattle.silk_resampler.specs.Down23.{States, ar2_states, filtered, states_of, with_states, buffer, down2_3_states}
+use Rattle.silk_resampler.specs.Down23Laws.{batch_at, batch_out, batch_states, states_part}
+use Rattle.silk_resampler.proofs.silk_resampler_down2_3.Goals as goal
+
+-- the buffer after the recursion: what it holds, of the copied history and of the part that the recursion left
+buffer_at : (F : Filter) (s : List ℤ) (x : ℕ → ℤ) (m : ℕ) {copied part : List ℤ} → m ≤ 480 → copied ≡ filled (sample s) 4 (replicate 484 (pos 0))
+    → part ≡ filled (filtered F (negsuc 2796) (negsuc 6506) (states_of (take 2 (drop 4 s))) x) m (take (4 + m - 4) (drop 4 copied))
+    → (k : ℕ) → k < 4 + m → sample (put_mid 4 (4 + m - 4) copied part) k ≡ buffer F s x k
+unfolding buffer
+buffer_at F s x m {copied} h ec ep =
+    batch_at (sample s) (filtered F (negsuc 2796) (negsuc 6506) (states_of (drop 4 s)) x) m (replicate 484 (pos 0)) (simp length-replicate (omega arith)) ec
+    (ep ∙ ap (λ (z : States). filled (filtered F (negsuc 2796) (negsuc 6506) z x) m (take (4 + m - 4) (drop 4 copied))) (states_part (drop 4 s)))
+
+pub returns : goal.returns
+unfolding down2_3_states sample
+returns c =
+    let F = c.args.filter in
+    let s = c.args.s.now in
+    let x = sample c.args.input.now in
+    let m = c.args.in_len in
+    let l = drop 4 s in
+    let a = ar2_states F (negsuc 2796) (negsuc 6506) (states_of l) x m in
+    let h : m ≤ 480 = omega (arith, c.requires.in_bounds) in
+    let g : 4 ≤ length s = omega (arith, c.requires.in_bounds) in
+    let buf = put_mid 4 (4 + m - 4) c.copy_values.new.to c.silk_resampler_private_ar2.new.out_q8 in
+    let b = buffer_at F s x m h c.copy_values.ensures c.silk_resampler_private_ar2.ensures.out_q8_after in
+    let f : c.silk_resampler_private_ar2.new.s ≡ with_states a (take 2 l) =
+    c.silk_resampler_private_ar2.ensures.s_after ∙ ap (λ (z : States). with_states (ar2_states F (negsuc 2796) (negsuc 6506) z x m) (take 2 l)) (states_part l) in
+    record {
+      out_after = c.decimate.ensures ∙ batch_out F s x m buf b c.args.out.now;
+      s_after = c.copy_values-2.ensures ∙ batch_states F s x m buf b (484 - m) a f (omega arith) g;
+    }
