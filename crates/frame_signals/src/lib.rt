@@ -1,5 +1,7 @@
 // The signals that the stages read: the working frame, and its forms at 8 and 4 kHz.
 // The functions are our cut of the source: `silk_pitch_analysis_core` (pitch_analysis.rs) does all this in its lines 138 to 199. The kernels and decimators are the source's.
+#![tactic(auto)]
+
 ghost use Rattle.std.specs.Prelude.{◌≡◌, ◌*◌, ◌/◌, ◌^◌, ◌≤◌, ◌<◌, length, take};
 ghost use Rattle.lists.specs.Fill.{filled, overwritten};
 ghost use Rattle.lists.specs.Signal.{sample};

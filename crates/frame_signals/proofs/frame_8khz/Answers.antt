@@ -1,0 +1,40 @@
+-- `frame_signals::frame_8khz` meets its contract: each way fills the buffer with the signal of its rate.
+use mathlib.Core.Path.{◌≡◌, sym, ap, ◌∙◌}
+use mathlib.Core.List.{List}
+use native.Mathlib.Omega.{arith}
+use lib.IntN.{ℤ}
+use lib.ListN.{length}
+use Rattle.lists.specs.Fill.{overwritten}
+use Rattle.silk_resampler.specs.Down2Laws.{down2_length}
+use Rattle.silk_resampler.specs.Down23Laws.{down2_3-length}
+use Rattle.frame_signals.specs.SignalLaws.{eight_16, eight_12, eight_8}
+use Rattle.frame_signals.proofs.frame_8khz.Goals as goal
+
+pub halve_into-requires : goal.halve_into-requires
+halve_into-requires c =
+    let w = c.args.frame.now in
+    omega (arith, c.requires.0, ap length (eight_16 c.args.filter c.args.fs_khz w c.if-fs_khz-eq16.true), down2_length w)
+
+pub two_thirds_into-requires : goal.two_thirds_into-requires
+two_thirds_into-requires c =
+    let w = c.args.frame.now in
+    let h = c.if-fs_khz-eq12.true in
+    let k = c.requires.1.0 h in
+    (omega (arith, c.requires.0, ap length (eight_12 c.args.filter c.args.fs_khz w h), down2_3-length c.args.filter w), (k, c.requires.1.1))
+
+pub copy_into-requires : goal.copy_into-requires
+copy_into-requires c =
+    omega (arith, c.requires.0, ap length (eight_8 c.args.filter c.args.fs_khz c.args.frame.now c.if-fs_khz-eq16.false c.if-fs_khz-eq12.false))
+
+-- a buffer that holds e, by the signal that it is at its rate
+held : (old : List ℤ) {signal e out : List ℤ} → out ≡ overwritten e old → signal ≡ e → out ≡ overwritten signal old
+held old h q = h ∙ ap (λ (t : List ℤ). overwritten t old) (sym q)
+
+pub returns-then-fs_khz-eq16 : goal.returns-then-fs_khz-eq16
+returns-then-fs_khz-eq16 c = held c.args.out.now c.halve_into.ensures (eight_16 c.args.filter c.args.fs_khz c.args.frame.now c.if-fs_khz-eq16.true)
+
+pub returns-then-fs_khz-eq12 : goal.returns-then-fs_khz-eq12
+returns-then-fs_khz-eq12 c = held c.args.out.now c.two_thirds_into.ensures (eight_12 c.args.filter c.args.fs_khz c.args.frame.now c.if-fs_khz-eq12.true)
+
+pub returns-else-fs_khz-eq12 : goal.returns-else-fs_khz-eq12
+returns-else-fs_khz-eq12 c = held c.args.out.now c.copy_into.ensures (eight_8 c.args.filter c.args.fs_khz c.args.frame.now c.if-fs_khz-eq16.false c.if-fs_khz-eq12.false)
