@@ -1,4 +1,6 @@
 // Numbers in a slice of bytes, the lowest byte first: two and four bytes without a sign, and four in two's complement.
+#![tactic(auto)]
+
 ghost use Rattle.std.specs.Prelude.{◌≡◌, ◌+◌, ◌≤◌, length};
 ghost use Rattle.std.proofs.lemmas.List.Edits.{sets};
 ghost use Rattle.sheet_bytes.specs.Bytes.{low_bytes, number_at, signed, signed_at};
