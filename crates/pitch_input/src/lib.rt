@@ -1,4 +1,6 @@
 // What the bytes of a program's input say: settings and samples, little-endian.
+#![tactic(auto)]
+
 ghost use Rattle.std.specs.Prelude.{◌≡◌, ◌+◌, ◌*◌, ◌≤◌, length};
 ghost use Rattle.pitch_input.specs.Input.{head_size, input_settings, sample_at, samples_from};
 
