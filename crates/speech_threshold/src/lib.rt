@@ -1,4 +1,6 @@
 // The second threshold from the speech itself, as the source's encoder finds it before it analyses a frame (silk_find_pitch_lags_fix of pitch_analysis.rs, five lines of it).
+#![tactic(auto)]
+
 ghost use Rattle.std.specs.Prelude.{◌≡◌, [], ◌∷◌};
 ghost use Rattle.answers.specs.Answer.{answer_numbers};
 ghost use Rattle.speech_threshold.specs.Threshold.{within, in_range, threshold_no, threshold_value, threshold_call, threshold_answer_numbers};
