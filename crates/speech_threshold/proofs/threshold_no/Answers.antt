@@ -5,7 +5,6 @@ use Rattle.zint.specs.ReadLaws.{r_var}
 use Rattle.speech_threshold.specs.Threshold.{in_range, threshold_no}
 use Rattle.speech_threshold.proofs.threshold_no.Goals as goal
 use Rattle.speech_threshold.proofs.threshold_no.Goals.{After-in_range}
-use Rattle.speech_threshold.proofs.threshold_no.Goals.{After-in_range}
 
 -- the test, of the four numbers
 asked : (c : After-in_range) → c.in_range.result ≡ in_range c.args.order c.args.activity c.args.signal_type c.args.tilt
