@@ -3,7 +3,6 @@ use Rattle.std.specs.Prelude.{cond, ℕ, eqb, ℤ, pos}
 use Rattle.pitch_settings.specs.declared.Settings.{Settings}
 use Rattle.pitch_settings.specs.Settings.{settings_no}
 use Rattle.speech_threshold.specs.Threshold.{threshold_no, threshold_value}
-use Rattle.track_settings.specs.declared.Speech.{Speech}
 use Rattle.track_settings.specs.declared.SecondThreshold.{SecondThreshold}
 use Rattle.track_settings.specs.declared.SecondThreshold.TheVariants.{Fixed, FromSpeech}
 use Rattle.track_settings.specs.declared.TrackSettings.{TrackSettings}

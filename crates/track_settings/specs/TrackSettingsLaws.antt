@@ -1,5 +1,5 @@
 -- Laws of a track's settings: sizes and refusals 1 to 3 do not depend on the second threshold, and what accepted ones say.
-use Rattle.std.specs.Prelude.{◌≡◌, Bool, ℕ, ℤ, pos}
+use Rattle.std.specs.Prelude.{◌≡◌, Bool, ℤ, pos}
 use Rattle.std.proofs.Math.Path.{refl, sym}
 use Rattle.std.proofs.Math.Bool.{true, false, cond}
 use borrow.Author.Tests.{eqb-true}

@@ -1,4 +1,6 @@
 // The settings of a track: a second threshold that is fixed, or found from the speech before each row.
+#![tactic(auto)]
+
 ghost use Rattle.std.specs.Prelude.{◌≡◌};
 ghost use Rattle.track_settings.specs.TrackSettings.{with_threshold, row_threshold, stored_threshold, second_no, first_settings_refusal, stored_settings, row_settings, track_settings_no, fixed_settings};
 
@@ -6,7 +8,7 @@ use pitch_settings::{Settings, settings_no};
 use speech_threshold::{threshold_no, threshold_value};
 
 // What a track's thresholds are found from, beside the type of the previous row.
-#[derive(Drop)]
+#[derive(Clone, Copy)]
 pub struct Speech {
     // the order of the whitening filter: 0 to 16
     pub order: i32,
@@ -17,7 +19,7 @@ pub struct Speech {
 }
 
 // The second threshold of a track.
-#[derive(Drop)]
+#[derive(Clone, Copy)]
 pub enum SecondThreshold {
     // the same for every frame, Q13
     Fixed(i32),
@@ -26,7 +28,7 @@ pub enum SecondThreshold {
 }
 
 // The five settings with which a track is analysed.
-#[derive(Drop)]
+#[derive(Clone, Copy)]
 pub struct TrackSettings {
     // samples per millisecond (kHz): 8, 12 or 16
     pub rate: usize,
