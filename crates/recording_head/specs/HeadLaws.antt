@@ -3,7 +3,6 @@ use Rattle.std.specs.Prelude.{◌≡◌, List, ◌++◌, ℕ, ◌+◌, ◌≤◌
 use Rattle.std.proofs.Math.Path.{refl, ap}
 use Rattle.std.proofs.Common.{arith}
 use Rattle.std.proofs.Math.ListN.{get_or-append}
-use Rattle.pitch_input.specs.Input.{head_size, input_settings}
 use Rattle.pitch_input.specs.InputLaws.{signed_front, sample_front, settings_front}
 use Rattle.track_settings.specs.TrackSettings.{fixed_settings}
 use Rattle.recording_head.specs.declared.Head.{Head}

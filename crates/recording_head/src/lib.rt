@@ -1,4 +1,6 @@
 // The head of a recording: the bytes before its samples, which say the settings of its track.
+#![tactic(auto)]
+
 ghost use Rattle.std.specs.Prelude.{◌≡◌, ◌+◌, ◌≤◌, length};
 ghost use Rattle.recording_head.specs.Head.{options_size, bytes_of_head, speech_in, second_in, options_settings, head_settings, head_known};
 

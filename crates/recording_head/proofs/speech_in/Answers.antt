@@ -1,0 +1,19 @@
+-- `recording_head::speech_in` meets its contract.
+use mathlib.Core.Path.{refl, ◌∙◌}
+use Prim.Native.Nat.{◌+◌, ◌<◌}
+use native.Mathlib.Omega.{arith}
+use lib.ListN.{get_or}
+use mir.Syntax.{w16, w32}
+use mir.ValLaws.{to_z_pos}
+use Rattle.zint.specs.ReadLaws.{r_got, wide_32}
+use Rattle.recording_head.specs.Head.{speech_in}
+use Rattle.recording_head.proofs.speech_in.Goals as goal
+
+pub returns : goal.returns
+unfolding speech_in
+returns c =
+    let b = c.args.bytes.now in
+    let at = c.args.at in
+    let o : get_or b at 0 < 256 = omega (arith, c.type_inv.bytes at) in
+    let a : get_or b (at + 1) 0 < 256 = omega (arith, c.type_inv.bytes (at + 1)) in
+    rw (to_z_pos w32 (get_or b at 0) (omega arith), to_z_pos w32 (get_or b (at + 1) 0) (omega arith), (wide_32 (r_got w16 c.sample_at.type_inv refl).fit).val ∙ c.sample_at.ensures)
