@@ -1,3 +1,4 @@
--- What reading says. Definition: `ReadAnswer`; law: `ReadAnswerLaws`.
+-- What reading says. Definitions: `ReadAnswer`, `Counts`; law: `ReadAnswerLaws`.
 pub mod ReadAnswer
+pub mod Counts
 pub mod ReadAnswerLaws

@@ -1,11 +1,14 @@
 // What the programs share that take a recording or a sheet: reading standard input, writing standard output, and telling on standard error that either failed.
-// No contract can say which bytes a call of C reads or writes; what is stated is how many bytes of the buffer count, and how a read's answer is taken.
-// A call that a signal interrupts before it moves a byte counts as one that failed, as in the kit's `io`.
+// Each is a reader or a writer that is handed over. What is stated is how many bytes of the buffer count, and how a read's answer is taken.
+// A read that a signal interrupts before it moves a byte counts as one that failed; a write is begun again then, as std does it.
+#![tactic(auto)]
+
 ghost use Rattle.std.specs.Prelude.{true, ◌≡◌, ◌*◌, ◌<◌, ◌≤◌, length};
-ghost use Rattle.io.specs.Counts.{IsPrefixLen};
+ghost use Rattle.recording_io.specs.Counts.{IsPrefixLen};
 ghost use Rattle.recording_io.specs.ReadAnswer.{most_reads, read_answer};
 
-use libc::{STDERR_FILENO, STDIN_FILENO, STDOUT_FILENO};
+use std::io;
+use std::io::{Read, Write};
 
 // The reads after which `read_whole` stops counting, where it is to count the whole rest: 2 to the 40.
 pub const EVERY: usize = 1099511627776;
@@ -25,33 +28,40 @@ pub struct Whole {
     pub failed: bool,
 }
 
-// What a read's answer says: a negative one that it failed, any other how many bytes it brought, 0 at the end of the input.
-fn taken(got: isize, part: &[u8]) -> Input
+// What a read's answer says: an error that it failed, a number how many bytes it brought, 0 at the end of the input.
+fn taken(got: io::Result<usize>, part: &[u8]) -> Input
     ensures value { result ≡ read_answer got (length part.now) }
     ensures count_in_bounds { result.count ≤ length part.now }
 {
     Input {
-        count: io::count(got, part),
-        failed: got < 0,
+        count: got.unwrap_or(0).min(part.len()),
+        failed: got.is_err(),
     }
 }
 
-// One read of standard input, straight into `part`.
-fn read_once(part: &mut [u8]) -> Input
+// 65,536 zeros, for a loop that moves much data. The `ensures` gives only the length, so that nothing unfolds the zeros.
+fn large_buffer() -> [u8; 65536]
+    ensures { 65536 ≡ length result }
+{
+    [0; 65536]
+}
+
+// One read of the input, straight into `part`.
+fn read_once<R: Read>(input: &mut R, part: &mut [u8]) -> Input
     ensures { result.count ≤ length part.new }
 {
-    let got = libc::read(STDIN_FILENO, part);
+    let got = input.read(part);
     taken(got, part)
 }
 
-// Reads standard input until `buf` is full, the input ends or a read fails; then `buf` is not full. Of the bytes past the count nothing is known.
-pub fn read_input(buf: &mut [u8]) -> Input
+// Reads the input until `buf` is full, the input ends or a read fails; then `buf` is not full. Of the bytes past the count nothing is known.
+pub fn read_input<R: Read>(input: &mut R, buf: &mut [u8]) -> Input
     ensures prefix_len { IsPrefixLen result.count buf.new }
     ensures count_in_bounds { result.failed ≡ true → result.count < length buf.new }
 {
     let mut done = 0;
     while done < buf.len() {
-        let got = read_once(&mut buf[done..]);
+        let got = read_once(input, &mut buf[done..]);
         if got.failed {
             return Input {
                 count: done,
@@ -74,14 +84,14 @@ pub fn read_input(buf: &mut [u8]) -> Input
 }
 
 // How many bytes are left to read, by so many reads at most.
-fn count_rest(reads: usize) -> Input
+fn count_rest<R: Read>(input: &mut R, reads: usize) -> Input
     requires { reads ≤ most_reads }
     ensures { result.count ≤ 65536 * reads }
 {
-    let mut chunk = io::large_buffer();
+    let mut chunk = large_buffer();
     let mut total = 0;
     for _ in 0..reads {
-        let got = read_once(&mut chunk);
+        let got = read_once(input, &mut chunk);
         let count = got.count;
         if got.failed || count == 0 {
             return Input {
@@ -97,13 +107,13 @@ fn count_rest(reads: usize) -> Input
     }
 }
 
-// Reads standard input into `buf` and, where it is full, counts what is left by so many reads at most.
-pub fn read_whole(buf: &mut [u8], reads: usize) -> Whole
+// Reads the input into `buf` and, where it is full, counts what is left by so many reads at most.
+pub fn read_whole<R: Read>(input: &mut R, buf: &mut [u8], reads: usize) -> Whole
     requires { reads ≤ most_reads }
     ensures prefix_len { IsPrefixLen result.count buf.new }
     ensures count_value { 0 < result.more → result.count ≡ length buf.new }
 {
-    let got = read_input(buf);
+    let got = read_input(input, buf);
     let count = got.count;
     if count < buf.len() {
         return Whole {
@@ -112,7 +122,7 @@ pub fn read_whole(buf: &mut [u8], reads: usize) -> Whole
             failed: got.failed,
         };
     }
-    let rest = count_rest(reads);
+    let rest = count_rest(input, reads);
     Whole {
         count,
         more: rest.count,
@@ -120,34 +130,44 @@ pub fn read_whole(buf: &mut [u8], reads: usize) -> Whole
     }
 }
 
-// Reads the whole of standard input into `buf`, and counts what does not fit; where a read failed, says so in the name of the program.
-pub fn read_recording(name: &[u8], buf: &mut [u8]) -> Whole
+// Reads the whole of the input into `buf`, and counts what does not fit; where a read failed, says so in the name of the program.
+pub fn read_recording<R: Read, E: Write>(
+    input: &mut R,
+    errors: &mut E,
+    name: &[u8],
+    buf: &mut [u8],
+) -> Whole
     ensures prefix_len { IsPrefixLen result.count buf.new }
     ensures count_value { 0 < result.more → result.count ≡ length buf.new }
 {
-    let got = read_whole(buf, EVERY);
+    let got = read_whole(input, buf, EVERY);
     if got.failed {
-        say_unread(name);
+        say_unread(errors, name);
     }
     got
 }
 
 // A line on standard error: the program's name, and what failed.
-fn complain(name: &[u8], what: &[u8]) {
-    io::write_all(STDERR_FILENO, name);
-    io::write_all(STDERR_FILENO, what);
+fn complain<E: Write>(errors: &mut E, name: &[u8], what: &[u8]) {
+    let _ = errors.write_all(name);
+    let _ = errors.write_all(what);
 }
 
 // Says that a read of standard input failed.
-pub fn say_unread(name: &[u8]) {
-    complain(name, b": reading standard input failed\n");
+pub fn say_unread<E: Write>(errors: &mut E, name: &[u8]) {
+    complain(errors, name, b": reading standard input failed\n");
 }
 
 // Writes all of `text` to standard output, or says that this failed: some of it may have been written then. Whether it was written.
-pub fn write_output(name: &[u8], text: &[u8]) -> bool {
-    let written = io::write_all(STDOUT_FILENO, text);
+pub fn write_output<W: Write, E: Write>(
+    output: &mut W,
+    errors: &mut E,
+    name: &[u8],
+    text: &[u8],
+) -> bool {
+    let written = output.write_all(text).is_ok();
     if !written {
-        complain(name, b": writing standard output failed\n");
+        complain(errors, name, b": writing standard output failed\n");
     }
     written
 }
