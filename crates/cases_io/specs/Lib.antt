@@ -3,3 +3,5 @@ pub mod Little
 pub mod LittleLaws
 pub mod Counts
 pub mod CountsLaws
+pub mod Lines
+pub mod LinesLaws

@@ -1,13 +1,18 @@
-// What a program that replays a list of cases stands on: little-endian numbers of a byte slice, comparison with them, and the lines that tell how many agree. A byte past the
-// end reads as 0, and so no place is out of range. Only `count`, `tally_of` and `report` have a `requires`: each kind has its place in both lists of counts.
-ghost use Rattle.std.specs.Prelude.{◌≡◌, ◌+◌, ◌*◌, ◌%◌, ◌^◌, ◌<◌, min, true, length, slice_index};
+// What a program that replays a list of cases stands on: reading the list, little-endian numbers of a byte slice, comparison with them, and the lines that tell how many agree. A
+// byte past the end reads as 0, and so no place is out of range. Only `count`, `tally_of` and `report` have a `requires`: each kind has its place in both lists of counts.
+#![tactic(auto)]
+
+ghost use Rattle.std.specs.Prelude.{◌≡◌, ◌+◌, ◌*◌, ◌%◌, ◌^◌, ◌<◌, min, true, take, length, IfOk, OnOk, slice_index};
+ghost use Rattle.std.specs.Io.{ReadsAtMost};
+ghost use Rattle.std.specs.Io.KnownBytes.{Appends, Consumes, IsAtEnd};
 ghost use Rattle.lists.specs.Fill.{filled};
 ghost use Rattle.cases_io.specs.Little.{u16_at, u32_at, u64_at, i16_at, i32_at, i16s_at, i32s_at, agree};
 ghost use Rattle.cases_io.specs.Counts.{same_settings, counted, tally_after, counted_at, count_sum, totals_of};
+ghost use Rattle.cases_io.specs.Lines.{tally_line, report_text};
 
-use libc::STDOUT_FILENO;
 use pitch_settings::Settings;
-use std::num::wrapping_add_u64;
+use std::io;
+use std::io::{Read, Write};
 use zint::{as_i16, low32};
 
 // How many cases there are, and how many agree.
@@ -22,6 +27,23 @@ pub fn room() -> [u8; 1048576]
     ensures { 1048576 ≡ length result }
 {
     [0; 1048576]
+}
+
+// Reads until `buf` is full or the input ends, and returns how many bytes it put at the start of `buf`. On an empty `buf` it makes no call.
+pub fn read_full<R: Read>(input: &mut R, buf: &mut [u8]) -> io::Result<usize>
+    ensures bound { ReadsAtMost result buf.new }
+    ensures bytes { IfOk result (λ n. Consumes (R.remaining input.old) (R.remaining input.new) (take n buf.new)) }
+    ensures end { IfOk result (λ n. n < length buf.new → IsAtEnd (R.remaining input.new)) }
+{
+    let mut done = 0;
+    while done < buf.len() {
+        let n = input.read(&mut buf[done..])?;
+        if n == 0 {
+            break;
+        }
+        done += n;
+    }
+    Ok(done)
 }
 
 // The byte at `at`, or 0 past the end.
@@ -179,7 +201,7 @@ pub fn same_settings(a: Settings, b: Settings) -> bool
 fn counted(n: u64, counts: bool) -> u64
     ensures { result ≡ counted counts n }
 {
-    if counts { wrapping_add_u64(n, 1) } else { n }
+    if counts { n.wrapping_add(1) } else { n }
 }
 
 impl Tally {
@@ -203,14 +225,14 @@ impl Tally {
         }
     }
 
-    // The line `name agreed of total`. What is written no contract can say.
-    pub fn print(self, name: &[u8]) {
-        io::write_all(STDOUT_FILENO, name);
-        io::write_all(STDOUT_FILENO, b" ");
-        io::print_decimal(STDOUT_FILENO, self.agreed);
-        io::write_all(STDOUT_FILENO, b" of ");
-        io::print_decimal(STDOUT_FILENO, self.total);
-        io::write_all(STDOUT_FILENO, b"\n");
+    // The line `name agreed of total`.
+    pub fn print<W: Write>(self, output: &mut W, name: &[u8]) -> io::Result<()>
+        ensures { OnOk result (Appends (W.contents output.old) (W.contents output.new) (tally_line name.now self)) }
+    {
+        let agreed = self.agreed;
+        let total = self.total;
+        output.write_all(name)?;
+        writeln!(output, " {agreed} of {total}")
     }
 }
 
@@ -227,9 +249,9 @@ pub fn count(agreed: &mut [u64], total: &mut [u64], kind: usize, agrees: bool)
 fn sum_of(xs: &[u64]) -> u64
     ensures { result ≡ count_sum xs.now (length xs.now) % 2 ^ 64 }
 {
-    let mut s = 0;
+    let mut s: u64 = 0;
     for i in 0..xs.len() {
-        s = wrapping_add_u64(s, xs[i]);
+        s = s.wrapping_add(xs[i]);
     }
     s
 }
@@ -256,13 +278,13 @@ pub fn tally_of(agreed: &[u64], total: &[u64], kind: usize) -> Tally
 }
 
 // A line for each kind, and one for all.
-pub fn report(agreed: &[u64], total: &[u64])
+pub fn report<W: Write>(output: &mut W, agreed: &[u64], total: &[u64]) -> io::Result<()>
     requires { length agreed.now ≡ length total.now }
+    ensures { OnOk result (Appends (W.contents output.old) (W.contents output.new) (report_text agreed.now total.now)) }
 {
     for kind in 0..total.len() {
-        io::write_all(STDOUT_FILENO, b"kind ");
-        io::print_decimal(STDOUT_FILENO, kind as u64);
-        tally_of(agreed, total, kind).print(b":");
+        write!(output, "kind {kind}")?;
+        tally_of(agreed, total, kind).print(output, b":")?;
     }
-    totals(agreed, total).print(b"all:");
+    totals(agreed, total).print(output, b"all:")
 }
