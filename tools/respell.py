@@ -25,7 +25,7 @@ def read(path):
 
 
 def found(*parts):
-    return sorted(glob.glob(os.path.join(ROOT, *parts)))
+    return sorted(glob.glob(os.path.join(ROOT, *parts), recursive=True))
 
 
 def declared():

@@ -6,7 +6,7 @@ use native.Mathlib.Omega.{arith}
 use lib.IntN.{ℤ, pos}
 use lib.ListN.{length, get_or, take, drop, set, replicate, get_or-append, length-take, length-drop, length-append, length-replicate}
 use lib.Seq.{length-take-le, get_or-take, get_or-drop, get_or-append-add, take-suc, drop-cons, set_at, append_snoc, take_all, take-length, take-append_seam, take_at, drop_at, sets, sets-eq, drop-drop}
-use Rattle.pitch_settings.specs.Settings.{longest-frame}
+use Rattle.pitch_settings.specs.Settings.{longest_frame}
 use Rattle.pitch_track.specs.Step.{zeros, padded}
 
 module _ (held samples : List ℤ) (count : ℕ) (fits : count ≤ length held) where
@@ -20,17 +20,17 @@ module _ (held samples : List ℤ) (count : ℕ) (fits : count ≤ length held) 
       ap (λ (i : ℕ). get_or (take count held ++ samples) i z) (omega (arith, length-take-le count held fits))
       ∙ get_or-append-add (take count held) samples (p - count) z
 
-  pub length-pending : length (take count held ++ samples) ≡ count + length samples
-  length-pending = length-append (take count held) samples ∙ ap (λ (n : ℕ). n + length samples) (length-take-le count held fits)
+  pub length_pending : length (take count held ++ samples) ≡ count + length samples
+  length_pending = length-append (take count held) samples ∙ ap (λ (n : ℕ). n + length samples) (length-take-le count held fits)
 
-pub length-zeros : length zeros ≡ longest-frame
+pub length_zeros : length zeros ≡ longest_frame
 unfolding zeros
-length-zeros = length-replicate longest-frame (pos 0)
+length_zeros = length-replicate longest_frame (pos 0)
 
 -- one more element of w is laid over z
-pub lay-more : (w z : List ℤ) (j : ℕ) (x : ℤ) → j < length w → j < length z → x ≡ get_or w j (pos 0)
+pub lay_more : (w z : List ℤ) (j : ℕ) (x : ℤ) → j < length w → j < length z → x ≡ get_or w j (pos 0)
     → set (take j w ++ drop j z) j x ≡ take (suc j) w ++ drop (suc j) z
-lay-more w z j x hw hz e =
+lay_more w z j x hw hz e =
     rw (drop-cons z j (pos 0) hz, set_at (take j w) (get_or z j (pos 0)) (drop (suc j) z) x j (length-take-le j w (omega arith)), take-suc w j (pos 0) hw, e)
     (sym (append_snoc (take j w) (get_or w j (pos 0)) (drop (suc j) z)))
 
@@ -43,13 +43,13 @@ module _ (x : List ℤ) (from size : ℕ) (fits : from + size ≤ length x) wher
   part_at j h = rw (get_or-take, get_or-drop)
 
 -- all of w is laid over z
-pub lay-all : (w z : List ℤ) (j : ℕ) → j ≡ length w → take j w ++ drop j z ≡ w ++ drop (length w) z
-lay-all w z j e = rw (e, take-length)
+pub lay_all : (w z : List ℤ) (j : ℕ) → j ≡ length w → take j w ++ drop j z ≡ w ++ drop (length w) z
+lay_all w z j e = rw (e, take-length)
 
-pub padded-front : (w : List ℤ) (n : ℕ) → length w ≡ n → take n (padded w) ≡ w
+pub padded_front : (w : List ℤ) (n : ℕ) → length w ≡ n → take n (padded w) ≡ w
 unfolding padded
-padded-front w n e = take_at w (drop (length w) zeros) n e
+padded_front w n e = take_at w (drop (length w) zeros) n e
 
-pub length-padded : (w : List ℤ) → length w ≤ longest-frame → length (padded w) ≡ longest-frame
+pub length_padded : (w : List ℤ) → length w ≤ longest_frame → length (padded w) ≡ longest_frame
 unfolding padded
-length-padded w h = simp (length-append, length-drop) (omega (arith, length-zeros))
+length_padded w h = simp (length-append, length-drop) (omega (arith, length_zeros))

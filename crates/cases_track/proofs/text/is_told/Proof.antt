@@ -14,8 +14,8 @@ slice-aggregate-same c = sym (length-take-le _ _ (array-share-prefix-out c.befor
 
 returns : tie.Need-returns
 returns c = λ rest e.
-    let text = text_of _ _ _ _ _ _ _ _ _ (c.before.before.before.before.before.track-text.ensures.0 rest e) in
-    record { only = λ t. sym text ∙ c.same.ensures.0 t; where-so = λ q. c.same.ensures.1 (text ∙ q) }
+    let text = text_of _ _ _ _ _ _ _ _ _ (c.before.before.before.before.before.track_text.ensures.0 rest e) in
+    record { only = λ t. sym text ∙ c.same.ensures.0 t; where_so = λ q. c.same.ensures.1 (text ∙ q) }
 
 pub is-told-spec : {M : Type 1} → statement M
 is-told-spec =

@@ -1,4 +1,4 @@
--- `pitch_track::Track::deliver` meets its contract: a refusal is the first case of `deliver-call`, and any other delivery the second.
+-- `pitch_track::Track::deliver` meets its contract: a refusal is the first case of `deliver_call`, and any other delivery the second.
 use mathlib.Core.Path.{◌≡◌, refl, sym, ap, ◌∙◌}
 use mathlib.Core.List.{List, ◌++◌}
 use Prim.Native.Nat.{ℕ, ◌+◌, ◌-◌, ◌*◌, ◌≤◌}
@@ -7,19 +7,19 @@ use borrow.Author.Rules.{rules}
 use lib.IntN.{ℤ}
 use lib.ListN.{length, take, drop}
 use mir.Syntax.{w32}
-use Rattle.zint.specs.ReadLaws.{r-elem}
+use Rattle.zint.specs.ReadLaws.{r_elem}
 use Rattle.pitch_settings.specs.declared.Settings.{Settings}
-use Rattle.pitch_settings.specs.Settings.{settings-no, frame-length, longest-frame, hop-length}
-use Rattle.track_settings.specs.TrackSettings.{stored-settings}
-use Rattle.pitch_settings.specs.SettingsLaws.{Accepted as Sized, accepted-settings}
+use Rattle.pitch_settings.specs.Settings.{settings_no, frame_length, longest_frame, hop_length}
+use Rattle.track_settings.specs.TrackSettings.{stored_settings}
+use Rattle.pitch_settings.specs.SettingsLaws.{Accepted as Sized, accepted_settings}
 use Rattle.track_paper.specs.declared.Limit.{Limit}
 use Rattle.track_paper.specs.declared.TrackAnswer.TheVariants.{Refused}
-use Rattle.track_paper.specs.Paper.{F, track-limit}
+use Rattle.track_paper.specs.Paper.{F, track_limit}
 use Rattle.track_paper.specs.FramesLaws.{rest, starts}
-use Rattle.track_refusal.specs.Refusal.{delivery-refusal}
+use Rattle.track_refusal.specs.Refusal.{delivery_refusal}
 use Rattle.track_refusal.specs.RefusalLaws.{Passed, passed}
 use Rattle.pitch_track.specs.declared.Track.{Track}
-use Rattle.pitch_track.specs.Step.{padded, pending, delivery-no, delivery-outcome, accepted-delivery}
+use Rattle.pitch_track.specs.Step.{padded, pending, delivery_no, delivery_outcome, accepted_delivery}
 use Rattle.pitch_track.proofs.Lists.{length-pending}
 use Rattle.pitch_track.proofs.Deliver.{refuses, accepts, made, kept, delivers}
 use Rattle.pitch_track.proofs.Track.deliver.Statement.{statement}
@@ -27,13 +27,13 @@ use Rattle.pitch_track.proofs.Track.deliver.Tie as tie
 
 -- the number that is said
 said : (c : tie.After-delivery-refusal)
-    → c.delivery-refusal.result ≡ delivery-no c.before.before.before.before.before.args.self c.before.before.before.before.before.args.table.now c.before.before.before.before.before.args.samples.now
+    → c.delivery_refusal.result ≡ delivery_no c.before.before.before.before.before.args.self c.before.before.before.before.before.args.table.now c.before.before.before.before.before.args.samples.now
 said c =
     let a = c.before.before.before.before.before.args in
-    let l = c.before.before.track-limit.ensures in
-    let t = (r-elem w32 a.self.prev.signal c.before.struct_told.given.1.1.0.1).val in
-    c.delivery-refusal.ensures
-    ∙ (λ i. delivery-refusal (l i) a.self.settings (t i) a.self.frames a.self.count (length a.samples.now) (length a.table.now))
+    let l = c.before.before.track_limit.ensures in
+    let t = (r_elem w32 a.self.prev.signal c.before.struct_told.given.1.1.0.1).val in
+    c.delivery_refusal.ensures
+    ∙ (λ i. delivery_refusal (l i) a.self.settings (t i) a.self.frames a.self.count (length a.samples.now) (length a.table.now))
 
 -- the delivery is not refused
 module _ (c : tie.Else1) where
@@ -46,13 +46,13 @@ module _ (c : tie.Else1) where
   abbrev given : List ℤ
   given = begun.args.samples.now
 
-  pass : Passed track-limit (stored-settings tr.settings) tr.frames tr.count (length given) (length begun.args.table.now)
+  pass : Passed track_limit (stored_settings tr.settings) tr.frames tr.count (length given) (length begun.args.table.now)
   pass = passed _ _ _ _ _ _ _ (λ e. omega arith) (sym (said c.before) ∙ c.if1.false)
 
-  sized : Sized (stored-settings tr.settings)
-  sized = accepted-settings _ pass.ok
+  sized : Sized (stored_settings tr.settings)
+  sized = accepted_settings _ pass.ok
 
-  held_fits : length tr.held ≡ longest-frame → tr.count ≤ length tr.held
+  held_fits : length tr.held ≡ longest_frame → tr.count ≤ length tr.held
   held_fits e = omega (arith, pass.few, sized.small)
 
 -- the new frames, and where what follows them starts
@@ -64,37 +64,37 @@ module _ (c : tie.After-frames-in) where
   other = stored.before
 
   abbrev s : Settings
-  s = stored-settings (tr other).settings
+  s = stored_settings (tr other).settings
 
   abbrev all : ℕ
   all = (tr other).count + length (given other)
 
   abbrev k : ℕ
-  k = c.frames-in.result
+  k = c.frames_in.result
 
   abbrev hop : ℕ
-  hop = c.before.hop-length.result
+  hop = c.before.hop_length.result
 
-  hop-is : hop ≡ hop-length s
-  hop-is = c.before.hop-length.ensures ∙ ap hop-length stored.stored-settings.ensures
+  hop-is : hop ≡ hop_length s
+  hop-is = c.before.hop_length.ensures ∙ ap hop_length stored.stored_settings.ensures
 
   new : k ≡ F s all
   new = cc
 
-  from_is : k * hop ≡ F s all * hop-length s
+  from_is : k * hop ≡ F s all * hop_length s
   from_is = cc
 
   from-fits : k * hop ≤ all
-  from-fits = omega (arith, from_is, starts (frame-length s) (hop-length s) (sized other).some (sized other).within all)
+  from-fits = omega (arith, from_is, starts (frame_length s) (hop_length s) (sized other).some (sized other).within all)
 
-  left-fits : all - k * hop ≤ longest-frame
-  left-fits = omega (arith, from_is, rest (frame-length s) (hop-length s) (sized other).some (sized other).within all, (sized other).small)
+  left-fits : all - k * hop ≤ longest_frame
+  left-fits = omega (arith, from_is, rest (frame_length s) (hop_length s) (sized other).some (sized other).within all, (sized other).small)
 
-full : (c : tie.After-held2) → length (tr (other c.before.before)).held ≡ longest-frame
+full : (c : tie.After-held2) → length (tr (other c.before.before)).held ≡ longest_frame
 full c = search rules
 
 delivery-refusal-requires : tie.Need-delivery-refusal-requires
-delivery-refusal-requires c κs = let e = ap (λ (l : Limit). l.frames) c.before.track-limit.ensures in (omega (arith, e), omega (arith, c.before.before.before.before.well-formed))
+delivery-refusal-requires c κs = let e = ap (λ (l : Limit). l.frames) c.before.track_limit.ensures in (omega (arith, e), omega (arith, c.before.before.before.before.well_formed))
 
 returns : tie.Need-returns
 returns c =
@@ -103,11 +103,11 @@ returns c =
     delivers a.self a.table.now a.samples.now _ _
     (sym
     (refuses a.self a.table.now a.samples.now (λ z. c.if1.true (e ∙ z))
-    ∙ ap (λ (n : ℕ). delivery-outcome (record { answer = Refused n; track = a.self }) a.table.now) (sym e)))
+    ∙ ap (λ (n : ℕ). delivery_outcome (record { answer = Refused n; track = a.self }) a.table.now) (sym e)))
 
 -- the settings are accepted
-ok : (c : tie.After-stored-settings) → settings-no c.stored-settings.result ≡ 0
-ok c = ap settings-no c.stored-settings.ensures ∙ (pass c.before).ok
+ok : (c : tie.After-stored-settings) → settings_no c.stored_settings.result ≡ 0
+ok c = ap settings_no c.stored_settings.ensures ∙ (pass c.before).ok
 
 frame-length-requires : tie.Need-frame-length-requires
 frame-length-requires c κs = ok c
@@ -116,10 +116,10 @@ hop-length-requires : tie.Need-hop-length-requires
 hop-length-requires c κs = ok c.before
 
 add-n : tie.Need-overflow-add-n
-add-n c = let e = c.before.before.before in omega (arith, (pass e).few, (sized e).small, (begun e).well-formed)
+add-n c = let e = c.before.before.before in omega (arith, (pass e).few, (sized e).small, (begun e).well_formed)
 
 frames-in-requires : tie.Need-frames-in-requires
-frames-in-requires c κs = let z = accepted-settings _ (ok c.before.before) in omega (arith, z.some, z.within, c.before.frame-length.ensures, c.hop-length.ensures)
+frames-in-requires c κs = let z = accepted_settings _ (ok c.before.before) in omega (arith, z.some, z.within, c.before.frame_length.ensures, c.hop_length.ensures)
 
 put-rows-requires : tie.Need-put-rows-requires
 put-rows-requires c κs =
@@ -164,7 +164,7 @@ returns-2 c =
     (ap (λ (n : ℕ). all f - k f * n) h)
     w.ensures.0
     w.ensures.1
-    ∙ ap (accepted-delivery tr t d) (new f)
+    ∙ ap (accepted_delivery tr t d) (new f)
     ∙ sym (accepts tr t d (sym (said (other f).before) ∙ (other f).if1.false)))
 
 pub deliver-spec : {M : Type 1} → statement M
