@@ -8,7 +8,7 @@ use Rattle.std.proofs.Math.Nat.{div-add-mod'}
 use Rattle.std.proofs.Math.Decide.{dec_lt}
 use native.Mathlib.Omega.{arith}
 use Rattle.std.proofs.Math.Arith.{digits_lt}
-use Rattle.std.specs.Int.Signed.{lt_z, le_z, clash_ℤ}
+use Rattle.std.specs.Int.Signed.{lt_z, clash_ℤ}
 use Rattle.zint.specs.BoolLaws.{and_left, and_right}
 use Rattle.zint.specs.TestLaws as test
 use Rattle.zint.specs.OrderLaws as order

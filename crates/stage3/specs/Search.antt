@@ -5,7 +5,7 @@ use Rattle.std.specs.Int.Signed.{lt_z}
 use Rattle.zint.specs.Minus.{minus}
 use Rattle.silk_tables.specs.Tables.{TableSettings, in_use, least_lag, greatest_lag}
 use Rattle.best.specs.Best.{Place}
-use Rattle.best.specs.BestLaws as laws
+use Rattle.best.proofs.BestOfLaws as laws
 use Rattle.silk_macros.specs.declared.Quotient.{Quotient}
 use Rattle.silk_macros.specs.declared.Quotient.TheVariants.{Value, ZeroDivisor as ByZero}
 use Rattle.stage3.specs.declared.Found.TheVariants.{Pair}

@@ -20,7 +20,7 @@ use Rattle.silk_macros.specs.DivideLaws.{div32_varq_fits}
 use Rattle.best.specs.Best.{Place, none, at, best}
 use Rattle.best.specs.BestLaws.{some_true, some_false, some_ext}
 use Rattle.best.proofs.BestOfLaws.{search_start, search_skip, search_better, search_kept, search_best, best_ext}
-use Rattle.best.specs.BestLaws as laws
+use Rattle.best.proofs.BestOfLaws as laws
 use Rattle.silk_macros.specs.declared.Quotient.{Quotient}
 use Rattle.silk_macros.specs.declared.Quotient.TheVariants.{Value, ZeroDivisor as ByZero}
 use Rattle.stage3.specs.declared.Found.TheVariants.{Pair, ZeroDivisor}
@@ -30,7 +30,7 @@ use Rattle.stage3.specs.declared.PairSearch.{PairSearch}
 use Rattle.stage3.specs.declared.SearchState.{SearchState}
 use Rattle.stage3.specs.declared.SearchState.TheVariants.{Going, Stopped}
 use Rattle.stage3.specs.Pick.{Choice, first_tried, last_tried, tried, quotient_of, bias_of, biased, score_of, used_in, zero_reached3, reached, candidate, score, zero_no, candidate_no, score_no, lag_no, contour_no, pair_count, pair_at, zero3, best3, pick}
-use Rattle.stage3.specs.Stage3.{sat_sum, energy_target, cross3, energy3, stage3, Handed}
+use Rattle.stage3.specs.Stage3.{energy_target, cross3, energy3, stage3, Handed}
 use Rattle.stage3.specs.Search.{at3, summed, array_choice, with_quotient, with_pair, BestOfFirst, AfterFirst}
 use Rattle.stage3.specs.PickLaws.{score_above, sat_sum_ext, few_lags}
 

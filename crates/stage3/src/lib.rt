@@ -1,6 +1,8 @@
 // Stage 3 of the pitch analyser: the lag near stage 2's winner and the contour with the highest score. The source has no function for it: this is the part of
 // silk_pitch_analysis_core (pitch_analysis.rs) from `start_lag` to the end of the loops over lags and contours. The names of variables are the source's, those of functions
 // and types ours.
+#![tactic(auto)]
+
 ghost use Rattle.std.specs.Prelude.{◌≡◌, ℕ, ◌+◌, ◌-◌, ◌*◌, ◌<◌, ◌≤◌, min, max, pos, length, ◌≤ℤ◌};
 ghost use Rattle.answers.specs.Answer.{answer_numbers};
 ghost use Rattle.silk_tables.specs.Tables.{in_use};
@@ -29,7 +31,7 @@ pub struct BestSoFar {
 }
 
 // Where the search looks: the rate in kHz, the subframe count, the complexity, and the winner of stage 2 scaled to the rate.
-#[derive(Drop)]
+#[derive(Clone, Copy)]
 pub struct PairSearch {
     pub fs: usize,
     pub nb: usize,

@@ -1,7 +1,0 @@
--- `stage3::smaller` meets its contract.
-use native.Mathlib.Omega.{arith}
-use Rattle.stage3.proofs.smaller.Statement.{statement}
-use Rattle.stage3.proofs.smaller.Tie as tie
-
-pub smaller-spec : {M : Type 1} → statement M
-smaller-spec = tie.close (tie.spec (λ c. omega arith) (λ c. omega arith))
