@@ -1,5 +1,5 @@
 -- The listed and the measured lags are those of `Meaning`'s words; examples of them; at most 24 lags are listed.
-use Rattle.std.specs.Prelude.{◌≡◌, Bool, ◌&&◌, ◌||◌, cond, List, [], ◌∷◌, ◌++◌}
+use Rattle.std.specs.Prelude.{◌≡◌, Bool, ◌&&◌, ◌||◌, cond, List, [], ◌∷◌}
 use Rattle.std.proofs.Math.Path.{refl}
 use Rattle.std.proofs.Common.{ap, ap₂, ◌∙◌, length-append}
 use Rattle.std.proofs.Math.Bool.{true, false}

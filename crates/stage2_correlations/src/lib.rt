@@ -1,6 +1,8 @@
 // Stage 2's measurements at 8 kHz: the lags that stage 1's kept lags list and measure, and a subframe's correlations by lag.
 // The functions are our cut of the source: `silk_pitch_analysis_core` (pitch_analysis.rs) marks the lags in its lines 292 to 331 and measures in its lines 333 to 392, all
 // subframes in one array. The macros and kernels are the source's, and so are the names of constants and variables.
+#![tactic(auto)]
+
 ghost use Rattle.std.specs.Prelude.{◌≡◌, ℕ, ◌+◌, ◌≤◌, ◌<◌, ◌+ℤ◌, ◌-ℤ◌, ◌*ℤ◌, length};
 ghost use Rattle.std.specs.Int.{w32};
 ghost use Rattle.zint.specs.Wrap.{wrap};

@@ -1,0 +1,66 @@
+-- `stage2_correlations::correlate` meets its contract.
+use mathlib.Core.Path.{sym, ap, ap₂, ◌∙◌}
+use mathlib.Core.Bool.{Bool, false, cond}
+use mathlib.Core.List.{List}
+use Prim.Native.Nat.{◌-◌}
+use lib.IntN.{ℤ, pos}
+use lib.ListN.{drop}
+use mir.Syntax.{w32}
+use Rattle.zint.specs.Wrap.{wrap}
+use Rattle.zint.specs.ReadLaws.{r_var, r_got}
+use Rattle.lists.specs.FillLaws.{tail_part}
+use Rattle.silk_sigproc.specs.Dot.{dot}
+use Rattle.stage2_correlations.specs.Rows.{ratio_of, at_lag}
+use Rattle.zint.specs.RuleLaws.{zneeds}
+use Rattle.stage2_correlations.proofs.correlate.Goals as goal
+
+pub returns-then-marked : goal.returns-then-marked
+unfolding at_lag
+returns-then-marked c =
+    let a = c.args in
+    let e = a.frame_8khz.now in
+    let x = c.silk_inner_prod_aligned in
+    let v = (r_got w32 x.type_inv (x.ensures ∙ ap₂ (λ (y z : List ℤ). wrap w32 (dot y z 40)) (tail_part a.target e) (tail_part (a.target - a.d) e))).val in
+    c.divide.ensures
+    ∙ ap₂ ratio_of v (r_var c.ranges.norm).val
+    ∙ sym (ap (λ (m : Bool). cond m (ratio_of (wrap w32 (dot (drop a.target e) (drop (a.target - a.d) e) 40)) a.norm) (record { zero = false; value = pos 0 })) c.if-marked.true)
+
+pub returns-else-marked : goal.returns-else-marked
+unfolding at_lag
+returns-else-marked c =
+    let a = c.args in
+    let e = a.frame_8khz.now in
+    sym (ap (λ (m : Bool). cond m (ratio_of (wrap w32 (dot (drop a.target e) (drop (a.target - a.d) e) 40)) a.norm) (record { zero = false; value = pos 0 })) c.if-marked.false)
+
+pub overflow_sub-basis : goal.overflow_sub-basis
+overflow_sub-basis c = search zneeds
+
+pub offset_bounds-frame_8khz-target : goal.offset_bounds-frame_8khz-target
+offset_bounds-frame_8khz-target c = search zneeds
+
+pub slice_bounds-silk_inner_prod_aligned-count : goal.slice_bounds-silk_inner_prod_aligned-count
+slice_bounds-silk_inner_prod_aligned-count c = search zneeds
+
+pub slice_bounds-silk_inner_prod_aligned-start : goal.slice_bounds-silk_inner_prod_aligned-start
+slice_bounds-silk_inner_prod_aligned-start c = search zneeds
+
+pub slice_bounds-silk_inner_prod_aligned-end : goal.slice_bounds-silk_inner_prod_aligned-end
+slice_bounds-silk_inner_prod_aligned-end c = search zneeds
+
+pub offset_bounds-frame_8khz-basis : goal.offset_bounds-frame_8khz-basis
+offset_bounds-frame_8khz-basis c = search zneeds
+
+pub slice_bounds-silk_inner_prod_aligned-count-then-marked : goal.slice_bounds-silk_inner_prod_aligned-count-then-marked
+slice_bounds-silk_inner_prod_aligned-count-then-marked c = search zneeds
+
+pub slice_bounds-silk_inner_prod_aligned-start-then-marked : goal.slice_bounds-silk_inner_prod_aligned-start-then-marked
+slice_bounds-silk_inner_prod_aligned-start-then-marked c = search zneeds
+
+pub slice_bounds-silk_inner_prod_aligned-end-then-marked : goal.slice_bounds-silk_inner_prod_aligned-end-then-marked
+slice_bounds-silk_inner_prod_aligned-end-then-marked c = search zneeds
+
+pub silk_inner_prod_aligned-requires : goal.silk_inner_prod_aligned-requires
+silk_inner_prod_aligned-requires c = search zneeds
+
+pub divide-requires : goal.divide-requires
+divide-requires c = search zneeds

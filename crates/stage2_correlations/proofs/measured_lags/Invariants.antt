@@ -1,0 +1,11 @@
+-- The invariants of `measured_lags`.
+use mathlib.Core.Path.{◌≡◌}
+use mathlib.Core.Bool.{false}
+use Prim.Native.Nat.{ℕ, ◌+◌, ◌≤◌}
+use lib.ListN.{replicate}
+use Rattle.lists.specs.Fill.{filled}
+use Rattle.stage2_correlations.specs.Marks.{measured}
+use Rattle.stage2_correlations.proofs.measured_lags.Given as goal
+
+abbrev pub invariant-loop-i : goal.invariant-loop-i
+invariant-loop-i l = (l.i ≤ 132) × (l.marks ≡ filled (λ (q : ℕ). measured l.kept (14 + q)) l.i (replicate 132 false))

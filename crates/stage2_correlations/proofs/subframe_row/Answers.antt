@@ -1,0 +1,100 @@
+-- `stage2_correlations::subframe_row` meets its contract.
+use mathlib.Core.Path.{◌≡◌, refl, sym, ap, ap₂, ◌∙◌}
+use Prim.Native.Nat.{ℕ, ◌+◌, ◌-◌, ◌*◌}
+use native.Mathlib.Omega.{arith}
+use lib.Dec.{lit≤}
+use lib.IntN.{ℤ, pos, ◌+ℤ◌, ◌-ℤ◌, ◌*ℤ◌}
+use lib.ListN.{get_or, replicate}
+use mir.Syntax.{w16, w32}
+use mir.Val.{to_z, of_z}
+use Rattle.zint.specs.Wrap.{wrap}
+use Rattle.zint.specs.ReadLaws.{r_got, r_elem, r_lit, r_call2}
+use Rattle.lists.specs.Fill.{filled}
+use Rattle.lists.specs.FillLaws.{filled_none, filled_turn, filled_all}
+use Rattle.best.specs.Best.{some}
+use Rattle.silk_sigproc.specs.Dot.{energy_sum}
+use Rattle.stage2_correlations.specs.declared.Ratio.{Ratio}
+use Rattle.stage2_correlations.specs.Correlations.{target2 as start_of_lem}
+use Rattle.stage2_correlations.specs.Rows.{value_at, zero_at, subframe_row}
+use Rattle.stage2_correlations.specs.RowLaws.{divisor_is, energy_back, at_lag_is, some_more, some_same}
+use Rattle.zint.specs.RuleLaws.{zneeds}
+use borrow.Author.Rules.{rules}
+use Rattle.stage2_correlations.proofs.subframe_row.Goals as goal
+use Rattle.stage2_correlations.proofs.subframe_row.Goals.{then-at, else-at}
+
+pub energy_of_40-requires : goal.energy_of_40-requires
+unfolding start_of_lem
+energy_of_40-requires c = c.requires.1
+
+pub energy_of_40-energy_basis-requires : goal.energy_of_40-energy_basis-requires
+unfolding start_of_lem
+energy_of_40-energy_basis-requires c = omega arith
+
+pub loop-i-init : goal.loop-i-init
+unfolding start_of_lem some
+loop-i-init c =
+    let a = c.energy_of_40 in
+    let b = c.wrapping_add_i32-energy_target in
+    let t = (r_call2 w32 (λ (x y : ℤ). wrap w32 (x +ℤ y)) b.type_inv (r_got w32 a.type_inv a.ensures) (r_lit w32 1 tt) b.ensures).val in
+    let u = (r_got w32 c.energy_of_40-energy_basis.type_inv c.energy_of_40-energy_basis.ensures).val in
+    (omega arith, (refl, (t, (u, (filled_none _ _, refl)))))
+
+pub correlate-at-requires : goal.correlate-at-requires
+unfolding start_of_lem
+correlate-at-requires c = (omega arith, c.requires.1)
+
+pub bounds-frame_8khz-basis : goal.bounds-frame_8khz-basis
+unfolding start_of_lem
+bounds-frame_8khz-basis c = omega (arith, c.requires.1)
+
+pub bounds-frame_8khz-basis-in-loop-i : goal.bounds-frame_8khz-basis-in-loop-i
+unfolding start_of_lem
+bounds-frame_8khz-basis-in-loop-i c = omega (arith, c.requires.1)
+
+pub loop-i-preserved : goal.loop-i-preserved
+unfolding start_of_lem
+loop-i-preserved c =
+    let a = c.args in
+    let e = a.frame_8khz.now in
+    let i = c.loop-i.i in
+    let inv = c.loop-i.invariant.1 in
+    -- the basis energy one lag on
+    let b = 160 + 40 * a.k - 15 - i in
+    let after : b + 1 ≡ 160 + 40 * a.k - (14 + i) = omega arith in
+    let next : b ≡ 160 + 40 * a.k - (14 + (i + 1)) = omega arith in
+    let gone = (r_elem w16 (get_or e (b + 40) (pos 0)) (search rules)).val in
+    let come = (r_elem w16 (get_or e b (pos 0)) (search rules)).val in
+    let z = to_z w32 c.loop-i.energy_basis-bits in
+    let y = (r_got w32 c.slide-energy_basis.type_inv
+    (c.slide-energy_basis.ensures
+    ∙ ap₂ (λ (g h : ℤ). wrap w32 (z -ℤ g *ℤ g +ℤ h *ℤ h)) gone come
+    ∙ energy_back e b z (inv.1.1.0 ∙ ap (λ (n : ℕ). wrap w32 (energy_sum e n 40)) (sym after))
+    ∙ ap (λ (n : ℕ). wrap w32 (energy_sum e n 40)) next)).val in
+    -- the lag's correlation
+    let n = c.wrapping_add_i32-norm in
+    let normed = (r_got w32 n.type_inv (n.ensures ∙ ap₂ (λ (x y : ℤ). wrap w32 (x +ℤ y)) inv.1.0 inv.1.1.0 ∙ divisor_is e a.k (14 + i))).val in
+    let r = c.correlate-at.ensures ∙ at_lag_is e a.marks.now a.k i _ normed in
+    let stored : to_z w16 (of_z w16 c.correlate-at.result.value) ≡ c.correlate-at.result.value = search zneeds in
+    let v = stored ∙ ap (λ (x : Ratio). x.value) r in
+    let f = zero_at e a.marks.now a.k in
+    let w : c.if-at.zero ≡ some (i + 1) f =
+    elim c.if-at.branch [
+      | then-at w ↦ some_more i f (sym (ap (λ (x : Ratio). x.zero) r) ∙ w.if-at.true) w.zero-is
+      | else-at w ↦ some_same i f (sym (ap (λ (x : Ratio). x.zero) r) ∙ w.if-at.false) (w.zero-is ∙ inv.1.1.1.1)
+    ]
+    in (
+      omega arith,
+      (refl, (inv.1.0, (y, (filled_turn (value_at e a.marks.now a.k) i (replicate 132 (pos 0)) inv.1.1.1.0 v (omega arith), w)))),
+    )
+
+pub returns : goal.returns
+unfolding subframe_row
+returns c =
+    let a = c.args in
+    let e : c.loop-i.i ≡ 132 = omega arith in
+    let f = value_at a.frame_8khz.now a.marks.now a.k in
+    let g = zero_at a.frame_8khz.now a.marks.now a.k in
+    let i = c.loop-i.invariant.1.1.1.1 in
+    let p = i.0 ∙ ap (λ (n : ℕ). filled f n (replicate 132 (pos 0))) e ∙ filled_all f 132 (replicate 132 (pos 0)) (lit≤ tt) in
+    let q = i.1 ∙ ap (λ (n : ℕ). some n g) e in
+    λ t. record { zero = q t; c = p t }
