@@ -11,7 +11,6 @@ use Rattle.zint.specs.ReadLaws.{r_var, r_got}
 use Rattle.lists.specs.FillLaws.{tail_part}
 use Rattle.silk_sigproc.specs.Dot.{dot}
 use Rattle.stage2_correlations.specs.Rows.{ratio_of, at_lag}
-use Rattle.zint.specs.RuleLaws.{zneeds}
 use Rattle.stage2_correlations.proofs.correlate.Goals as goal
 
 pub returns-then-marked : goal.returns-then-marked
@@ -31,36 +30,3 @@ returns-else-marked c =
     let a = c.args in
     let e = a.frame_8khz.now in
     sym (ap (λ (m : Bool). cond m (ratio_of (wrap w32 (dot (drop a.target e) (drop (a.target - a.d) e) 40)) a.norm) (record { zero = false; value = pos 0 })) c.if-marked.false)
-
-pub overflow_sub-basis : goal.overflow_sub-basis
-overflow_sub-basis c = search zneeds
-
-pub offset_bounds-frame_8khz-target : goal.offset_bounds-frame_8khz-target
-offset_bounds-frame_8khz-target c = search zneeds
-
-pub slice_bounds-silk_inner_prod_aligned-count : goal.slice_bounds-silk_inner_prod_aligned-count
-slice_bounds-silk_inner_prod_aligned-count c = search zneeds
-
-pub slice_bounds-silk_inner_prod_aligned-start : goal.slice_bounds-silk_inner_prod_aligned-start
-slice_bounds-silk_inner_prod_aligned-start c = search zneeds
-
-pub slice_bounds-silk_inner_prod_aligned-end : goal.slice_bounds-silk_inner_prod_aligned-end
-slice_bounds-silk_inner_prod_aligned-end c = search zneeds
-
-pub offset_bounds-frame_8khz-basis : goal.offset_bounds-frame_8khz-basis
-offset_bounds-frame_8khz-basis c = search zneeds
-
-pub slice_bounds-silk_inner_prod_aligned-count-then-marked : goal.slice_bounds-silk_inner_prod_aligned-count-then-marked
-slice_bounds-silk_inner_prod_aligned-count-then-marked c = search zneeds
-
-pub slice_bounds-silk_inner_prod_aligned-start-then-marked : goal.slice_bounds-silk_inner_prod_aligned-start-then-marked
-slice_bounds-silk_inner_prod_aligned-start-then-marked c = search zneeds
-
-pub slice_bounds-silk_inner_prod_aligned-end-then-marked : goal.slice_bounds-silk_inner_prod_aligned-end-then-marked
-slice_bounds-silk_inner_prod_aligned-end-then-marked c = search zneeds
-
-pub silk_inner_prod_aligned-requires : goal.silk_inner_prod_aligned-requires
-silk_inner_prod_aligned-requires c = search zneeds
-
-pub divide-requires : goal.divide-requires
-divide-requires c = search zneeds

@@ -10,6 +10,7 @@ use Rattle.silk_macros.specs.Divide.{quotient}
 use Rattle.silk_macros.specs.declared.Quotient.{Quotient}
 use Rattle.stage2_correlations.specs.RowLaws.{ratio_none, ratio_value, ratio_zero}
 use Rattle.zint.specs.RuleLaws.{zneeds}
+use borrow.Author.Rules.{rules}
 use Rattle.stage2_correlations.proofs.divide.Goals as goal
 
 -- what was divided
@@ -19,7 +20,7 @@ divided f g e = e ∙ ap₂ (λ (x y : ℤ). quotient x y (pos 14)) (r_var f).va
 pub returns-in_default : goal.returns-in_default
 returns-in_default c =
     let f = c.ranges in
-    ratio_zero _ _ (t_above (pos 0) (r_var f.cross_corr) c.if-cross_corr-gt0.true) (sym (divided f.cross_corr f.norm c.silk_div32_varq.ensures.value) ∙ c.in_default.is)
+    ratio_zero _ _ (t_above (pos 0) (r_var f.cross_corr) (search rules)) (sym (divided f.cross_corr f.norm c.silk_div32_varq.ensures.value) ∙ c.in_default.is)
 
 pub returns-in-Value : goal.returns-in-Value
 returns-in-Value c =
@@ -27,7 +28,7 @@ returns-in-Value c =
     let q = c.in-Value.q in
     let same : to_z w32 (of_z w32 q) ≡ q = search zneeds in
     ap (λ (x : ℤ). record { zero = false; value = x }) (r_got w16 c.as_i16.type_inv (c.as_i16.ensures ∙ ap (wrap w16) same)).val
-    ∙ ratio_value _ _ q (t_above (pos 0) (r_var f.cross_corr) c.if-cross_corr-gt0.true) (sym (divided f.cross_corr f.norm c.silk_div32_varq.ensures.value) ∙ c.in-Value.is)
+    ∙ ratio_value _ _ q (t_above (pos 0) (r_var f.cross_corr) (search rules)) (sym (divided f.cross_corr f.norm c.silk_div32_varq.ensures.value) ∙ c.in-Value.is)
 
 pub returns-else-cross_corr-gt0 : goal.returns-else-cross_corr-gt0
 returns-else-cross_corr-gt0 c = ratio_none _ _ (t_above (pos 0) (r_var c.ranges.cross_corr) c.if-cross_corr-gt0.false)

@@ -1,11 +1,7 @@
 -- `stage2_correlations::is_listed` meets its contract.
 use Rattle.stage2_correlations.specs.Marks.{listed}
-use Rattle.zint.specs.RuleLaws.{zneeds}
 use Rattle.stage2_correlations.proofs.is_listed.Goals as goal
 
 pub returns : goal.returns
 unfolding listed
 returns c = c.is_marked.ensures
-
-pub is_marked-requires : goal.is_marked-requires
-is_marked-requires c = search zneeds

@@ -2,7 +2,6 @@
 use mathlib.Core.Path.{sym, ◌∙◌}
 use Rattle.stage2_correlations.specs.Marks.{marked}
 use Rattle.stage2_correlations.specs.MarkLaws.{too_low, too_high, inside}
-use Rattle.zint.specs.RuleLaws.{zneeds}
 use Rattle.stage2_correlations.proofs.is_marked.Goals as goal
 
 pub returns-then-d-low : goal.returns-then-d-low
@@ -16,6 +15,3 @@ returns-then-d-high c = sym (too_high _ _ _ _ c.if-d-high.true)
 pub returns : goal.returns
 unfolding marked
 returns c = c.is_near.ensures ∙ sym (inside _ _ _ _ c.if-d-low.false c.if-d-high.false)
-
-pub is_near-requires : goal.is_near-requires
-is_near-requires c = search zneeds

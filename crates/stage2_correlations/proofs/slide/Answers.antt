@@ -5,7 +5,6 @@ use mir.Syntax.{w32}
 use Rattle.zint.specs.Wrap.{wrap}
 use Rattle.zint.specs.WrapLaws.{wraps}
 use Rattle.zint.specs.ReadLaws.{r_var, r_call1, r_call2}
-use Rattle.zint.specs.RuleLaws.{zneeds}
 use Rattle.stage2_correlations.proofs.slide.Goals as goal
 
 pub returns : goal.returns
@@ -15,15 +14,3 @@ returns c =
     let d = r_call2 w32 (λ (x y : ℤ). wrap w32 (x -ℤ y)) c.wrapping_sub_i32.type_inv (r_var f.energy) g c.wrapping_sub_i32.ensures in
     let k = r_call1 w32 (λ (x : ℤ). x *ℤ x) c.square-2.type_inv (r_var f.come) c.square-2.ensures in
     (r_call2 w32 (λ (x y : ℤ). wrap w32 (x +ℤ y)) c.wrapping_add_i32.type_inv d k c.wrapping_add_i32.ensures).val ∙ simp wraps
-
-pub square-requires : goal.square-requires
-square-requires c = search zneeds
-
-pub wrapping_sub_i32-requires : goal.wrapping_sub_i32-requires
-wrapping_sub_i32-requires c = search zneeds
-
-pub square-requires-2 : goal.square-requires-2
-square-requires-2 c = search zneeds
-
-pub wrapping_add_i32-requires : goal.wrapping_add_i32-requires
-wrapping_add_i32-requires c = search zneeds
