@@ -1,4 +1,6 @@
 // Text: decimal numbers and lines as bytes, written at a place of a buffer.
+#![tactic(auto)]
+
 ghost use Rattle.std.specs.Prelude.{◌≡◌, ◌+◌, ◌*◌, ◌≤◌, length, take};
 ghost use Rattle.pitch_table.specs.Row.{row_size, most_frames, row_at};
 ghost use Rattle.pitch_text.specs.Decimal.{digits, decimal};
