@@ -1,4 +1,6 @@
 // Rows that a sheet can hold: the row that a verdict, a pair and a correlation stand for, and whether a row is one of those.
+#![tactic(auto)]
+
 ghost use Rattle.std.specs.Prelude.{◌≡◌};
 ghost use Rattle.answers.specs.Answer.{answer_numbers};
 ghost use Rattle.pitch_settings.specs.Settings.{held_no};
