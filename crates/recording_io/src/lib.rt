@@ -1,9 +1,11 @@
 // What the programs share that take a recording or a sheet: reading standard input, writing standard output, and telling on standard error that either failed.
-// Each is a reader or a writer that is handed over. What is stated is how many bytes of the buffer count, and how a read's answer is taken.
+// Each is a reader or a writer that is handed over. What is stated is how many bytes of the buffer count and how a read's answer is taken, and, where it is known which bytes a reader
+// has or a writer holds, that those of the buffer are what the reader lost, and the text is what the writer got.
 // A read that a signal interrupts before it moves a byte counts as one that failed; a write is begun again then, as std does it.
 #![tactic(auto)]
 
-ghost use Rattle.std.specs.Prelude.{true, ◌≡◌, ◌*◌, ◌<◌, ◌≤◌, length};
+ghost use Rattle.std.specs.Prelude.{true, false, ◌≡◌, ℕ, ◌*◌, ◌<◌, ◌≤◌, List, ◌++◌, take, length};
+ghost use Rattle.std.specs.Io.KnownBytes.{Appends, Consumes, IsAtEnd};
 ghost use Rattle.recording_io.specs.Counts.{IsPrefixLen};
 ghost use Rattle.recording_io.specs.ReadAnswer.{most_reads, read_answer};
 
@@ -48,7 +50,10 @@ fn large_buffer() -> [u8; 65536]
 
 // One read of the input, straight into `part`.
 fn read_once<R: Read>(input: &mut R, part: &mut [u8]) -> Input
-    ensures { result.count ≤ length part.new }
+    ensures count_in_bounds { result.count ≤ length part.new }
+    ensures none_failed { result.failed ≡ true → result.count ≡ 0 }
+    ensures bytes { Consumes (R.remaining input.old) (R.remaining input.new) (take result.count part.new) }
+    ensures end { result.failed ≡ false → result.count ≡ 0 → 0 < length part.new → IsAtEnd (R.remaining input.new) }
 {
     let got = input.read(part);
     taken(got, part)
@@ -58,6 +63,8 @@ fn read_once<R: Read>(input: &mut R, part: &mut [u8]) -> Input
 pub fn read_input<R: Read>(input: &mut R, buf: &mut [u8]) -> Input
     ensures prefix_len { IsPrefixLen result.count buf.new }
     ensures count_in_bounds { result.failed ≡ true → result.count < length buf.new }
+    ensures bytes { Consumes (R.remaining input.old) (R.remaining input.new) (take result.count buf.new) }
+    ensures end { result.failed ≡ false → result.count < length buf.new → IsAtEnd (R.remaining input.new) }
 {
     let mut done = 0;
     while done < buf.len() {
@@ -86,7 +93,9 @@ pub fn read_input<R: Read>(input: &mut R, buf: &mut [u8]) -> Input
 // How many bytes are left to read, by so many reads at most.
 fn count_rest<R: Read>(input: &mut R, reads: usize) -> Input
     requires { reads ≤ most_reads }
-    ensures { result.count ≤ 65536 * reads }
+    ensures count_in_bounds { result.count ≤ 65536 * reads }
+    ensures bytes { (rest : List ℕ) × (length rest ≡ result.count) × Consumes (R.remaining input.old) (R.remaining input.new) rest }
+    ensures end { result.failed ≡ false → result.count < reads → IsAtEnd (R.remaining input.new) }
 {
     let mut chunk = large_buffer();
     let mut total = 0;
@@ -112,6 +121,8 @@ pub fn read_whole<R: Read>(input: &mut R, buf: &mut [u8], reads: usize) -> Whole
     requires { reads ≤ most_reads }
     ensures prefix_len { IsPrefixLen result.count buf.new }
     ensures count_value { 0 < result.more → result.count ≡ length buf.new }
+    ensures bytes { (rest : List ℕ) × (length rest ≡ result.more) × Consumes (R.remaining input.old) (R.remaining input.new) (take result.count buf.new ++ rest) }
+    ensures end { result.failed ≡ false → result.more < reads → IsAtEnd (R.remaining input.new) }
 {
     let got = read_input(input, buf);
     let count = got.count;
@@ -139,6 +150,8 @@ pub fn read_recording<R: Read, E: Write>(
 ) -> Whole
     ensures prefix_len { IsPrefixLen result.count buf.new }
     ensures count_value { 0 < result.more → result.count ≡ length buf.new }
+    ensures bytes { (rest : List ℕ) × (length rest ≡ result.more) × Consumes (R.remaining input.old) (R.remaining input.new) (take result.count buf.new ++ rest) }
+    ensures end { result.failed ≡ false → result.more < most_reads → IsAtEnd (R.remaining input.new) }
 {
     let got = read_whole(input, buf, EVERY);
     if got.failed {
@@ -164,7 +177,9 @@ pub fn write_output<W: Write, E: Write>(
     errors: &mut E,
     name: &[u8],
     text: &[u8],
-) -> bool {
+) -> bool
+    ensures { result ≡ true → Appends (W.contents output.old) (W.contents output.new) text.now }
+{
     let written = output.write_all(text).is_ok();
     if !written {
         complain(errors, name, b": writing standard output failed\n");
