@@ -1,6 +1,8 @@
 // Stage 1 of the pitch analyser: the lags at 4 kHz that go on to stage 2.
 // The functions are our cut of the source: `silk_pitch_analysis_core` (pitch_analysis.rs) does all this in its lines 201 to 290. The macros, kernels and the sort are the
 // source's, and so are the names of constants and variables.
+#![tactic(auto)]
+
 ghost use Rattle.std.specs.Prelude.{◌≡◌, [], ◌⊎◌, ℕ, ◌+◌, ◌-◌, ◌*◌, ◌<◌, ◌≤◌, ◌+ℤ◌, ◌-ℤ◌, ◌*ℤ◌, length, get_or, replicate};
 ghost use Rattle.std.specs.Int.{w32};
 ghost use Rattle.answers.specs.Answer.{answer_numbers};

@@ -10,23 +10,14 @@ use Rattle.lists.specs.Fill.{filled}
 use Rattle.lists.specs.FillLaws.{tail_part}
 use Rattle.silk_sigproc.specs.Dot.{dot}
 use Rattle.stage1.specs.ScoreLaws.{cross_all}
-use Rattle.zint.specs.RuleLaws.{zneeds}
-use Rattle.stage1.proofs.cross_correlations.Statement.{statement}
-use Rattle.stage1.proofs.cross_correlations.Tie as tie
+use Rattle.stage1.proofs.cross_correlations.Goals as goal
 
-returns : tie.Need-returns
+pub returns : goal.returns
 returns c =
-    let f = c.before.silk-pitch-xcorr in
-    let s = c.before.before.before.before.before.before in
-    let w = s.args.frame-4khz.now in
-    let t = c.before.before.before.before.before.target in
+    let f = c.silk_pitch_xcorr in
+    let w = c.args.frame_4khz.now in
+    let t = c.target-target in
     f.ensures
     ∙ ap₂ (λ (x y : List ℤ). filled (λ (k : ℕ). wrap w32 (dot x (drop k y) 40)) 65 (replicate 65 (pos 0))) (tail_part t.result w) (tail_part (t.result - 72) w)
     ∙ ap (λ (n : ℕ). filled (λ (k : ℕ). wrap w32 (dot (drop n w) (drop k (drop (n - 72) w)) 40)) 65 (replicate 65 (pos 0))) t.ensures
-    ∙ cross_all w s.args.h
-
-pub cross-correlations-spec : {M : Type 1} → statement M
-cross-correlations-spec =
-    tie.close
-    (tie.spec (λ c κs. search zneeds) (λ c. search zneeds) (λ c. search zneeds) (λ c. search zneeds) (λ c. search zneeds) (λ c. search zneeds)
-    (λ c. search zneeds) (λ c. search zneeds) (λ c. search zneeds) (λ c. search zneeds) (λ c. search zneeds) (λ c κs. search zneeds) returns)
+    ∙ cross_all w c.args.h
