@@ -8,7 +8,7 @@ use Rattle.std.specs.Int.Signed.{lt_z, quot_z}
 use Rattle.best.specs.Best.{Place, none, at, BestOf}
 use Rattle.best.specs.BestLaws.{some_true, some_false}
 use Rattle.best.proofs.BestOfLaws.{best_ext}
-use Rattle.best.specs.BestLaws as laws
+use Rattle.best.proofs.BestOfLaws as laws
 use Rattle.zint.specs.TestLaws.{lt_true, lt_false}
 use Rattle.lists.specs.Fill.{tabulate, filled}
 use Rattle.lists.specs.FillLaws.{get_d_tabulate, get_or-filled}

@@ -1,6 +1,8 @@
 // Stage 2 of the pitch analyser: the lag at 8 kHz with the best biased score among those that pass.
 // The functions are our cut of the source: `silk_pitch_analysis_core` (pitch_analysis.rs) does all this in its lines 333 to 502, the measurements (`stage2_correlations`) up
 // to 392. The macros and tables are the source's, and so are the names of constants and of most variables.
+#![tactic(auto)]
+
 ghost use Rattle.std.specs.Prelude.{◌≡◌, ◌≤◌, ◌<◌, pos, nat_abs, ◌≤ℤ◌};
 ghost use Rattle.answers.specs.Answer.{answer_numbers};
 ghost use Rattle.silk_tables.specs.Tables.{entries2};
@@ -45,7 +47,7 @@ pub struct BestLag {
 
 // What the search goes by besides the correlations and the kept lags: how many subframes there are and how many contours are tried, what a lag's sum has to be above, and the
 // previous lag at 8 kHz with its correlation.
-#[derive(Drop)]
+#[derive(Clone, Copy)]
 pub struct LagSearch {
     pub nb: usize,
     pub contours: usize,

@@ -1,0 +1,8 @@
+-- The invariants of `pick_lag`.
+use Prim.Native.Nat.{◌-◌, ◌≤◌}
+use Rattle.stage2.specs.Search.{search_in}
+use Rattle.stage2.specs.SearchLaws.{AfterLags}
+use Rattle.stage2.proofs.pick_lag.Given as goal
+
+abbrev pub invariant-loop-d : goal.invariant-loop-d
+invariant-loop-d l = (16 ≤ l.d) × ((l.d ≤ 144) × AfterLags (search_in l.c_8khz l.kept l.by) (l.d - 16) l.best)
