@@ -1,4 +1,6 @@
 // The sections of a sheet: how many bytes each has and where it stands, which rows have an entry in it, what the entry is, and how a page is written.
+#![tactic(auto)]
+
 ghost use Rattle.std.specs.Prelude.{map, true, ◌≡◌, ℕ, ◌+◌, ◌*◌, ◌<◌, ◌≤◌, length};
 ghost use Rattle.pitch_settings.specs.Settings.{held_no};
 ghost use Rattle.pitch_table.specs.Row.{row_size, most_frames, row_at};
@@ -69,7 +71,7 @@ pub const VOICED_FRAME_BYTES: usize = VERDICT_BYTES + PAIR_BYTES + CORRELATION_B
 pub const LONGEST_SHEET: usize = SHORTEST_SHEET + MOST_FRAMES * VOICED_FRAME_BYTES;
 
 // The sections after the settings, in their order on the page.
-#[derive(Drop)]
+#[derive(Clone, Copy)]
 pub enum Section {
     Verdicts,
     Pairs,

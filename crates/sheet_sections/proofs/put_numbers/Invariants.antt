@@ -1,0 +1,12 @@
+-- The invariants of `put_numbers`.
+use mathlib.Core.Path.{◌≡◌}
+use Prim.Native.Nat.{◌+◌, ◌*◌, ◌≤◌}
+use lib.ListN.{length}
+use Rattle.lists.specs.Put.{Put}
+use Rattle.sheet_sections.specs.Sheet.{setting_bytes}
+use Rattle.sheet_sections.specs.SheetLaws.{signed_first}
+use Rattle.sheet_sections.proofs.put_numbers.Given as goal
+
+abbrev pub invariant-loop-i : goal.invariant-loop-i
+invariant-loop-i l =
+    (l.i ≤ length l.numbers) × (length l.page ≡ length l.initial.page) × (l.end ≡ l.at + setting_bytes * l.i) × Put l.initial.page l.at (signed_first l.numbers l.i) l.end l.page
