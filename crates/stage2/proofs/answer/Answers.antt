@@ -45,9 +45,3 @@ returns c =
     let r = r_got w32 c.silk_div32_16.type_inv (c.silk_div32_16.ensures ∙ ap₂ quot_z summed (r_nat w32 n (omega arith)).val) in
     ap (Winner b.lag b.contour) ((r_call1 w32 (λ (x : ℤ). wrap w32 (x *ℤ pos 4)) c.silk_lshift.type_inv r c.silk_lshift.ensures).val ∙ wrap_id w32 (q *ℤ pos 4) f)
     ∙ sym (ap (λ (t : Bool). cond t Unvoiced (Winner b.lag b.contour (q *ℤ pos 4))) (ne_eqb b.lag 0 c.if-lag-eq0.false))
-
-pub overflow_cast-nb_subfr : goal.overflow_cast-nb_subfr
-overflow_cast-nb_subfr c = search zneeds
-
-pub silk_lshift-requires : goal.silk_lshift-requires
-silk_lshift-requires c = search zneeds

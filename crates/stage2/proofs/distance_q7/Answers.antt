@@ -7,7 +7,6 @@ use Rattle.zint.specs.BoundLaws.{abs_sub, abs_fits}
 use Rattle.zint.specs.ReadLaws.{r_var, r_sub, r_call1, r_call2, f_sub}
 use Rattle.silk_macros.specs.Macros.{smulbb}
 use Rattle.stage2.specs.Scores.{distance}
-use Rattle.zint.specs.RuleLaws.{zneeds}
 use Rattle.stage2.proofs.distance_q7.Goals as goal
 
 apart : (c : goal.Start) → SFits w32 (c.args.lag_log2_q7 -ℤ c.args.prev_lag_log2_q7)
@@ -22,9 +21,3 @@ returns c =
     let s = c.before.before in
     let d = r_sub (r_var s.ranges.lag_log2_q7) (r_var s.ranges.prev_lag_log2_q7) (apart s) in
     (r_call1 w32 (λ (x : ℤ). shr_z x 128) c.silk_rshift.type_inv (r_call2 w32 smulbb c.silk_smulbb.type_inv d d c.silk_smulbb.ensures) c.silk_rshift.ensures).val
-
-pub silk_smulbb-requires : goal.silk_smulbb-requires
-silk_smulbb-requires c = search zneeds
-
-pub silk_rshift-requires : goal.silk_rshift-requires
-silk_rshift-requires c = search zneeds

@@ -6,7 +6,6 @@ use Rattle.zint.specs.ReadLaws.{r_var, r_nat, r_got}
 use Rattle.silk_macros.specs.Macros.{smulbb}
 use Rattle.stage2.specs.Scores.{prev_8khz}
 use Rattle.stage2.specs.ScoreLaws.{threshold_is}
-use Rattle.zint.specs.RuleLaws.{zneeds}
 use Rattle.stage2.proofs.lag_search.Goals as goal
 
 pub returns : goal.returns
@@ -18,15 +17,3 @@ returns c =
     let t = (r_got w32 m.type_inv (m.ensures ∙ ap₂ smulbb (r_nat w32 a.nb_subfr (omega arith)).val (r_var c.ranges.search_thres2_q13).val ∙ threshold_is a.nb_subfr a.search_thres2_q13 c.requires)).val in
     let p = (r_got w32 g.type_inv (g.ensures ∙ ap (prev_8khz a.fs_khz) (r_var c.ranges.prev_lag).val)).val in
     λ i. record { nb = a.nb_subfr; contours = n.ensures i; thres = t i; prev = p i; corr = (r_var c.ranges.prev_corr).val i }
-
-pub nb_cbk_search_stage2-requires : goal.nb_cbk_search_stage2-requires
-nb_cbk_search_stage2-requires c = search zneeds
-
-pub overflow_cast-nb_subfr : goal.overflow_cast-nb_subfr
-overflow_cast-nb_subfr c = search zneeds
-
-pub silk_smulbb-requires : goal.silk_smulbb-requires
-silk_smulbb-requires c = search zneeds
-
-pub previous_8khz-requires : goal.previous_8khz-requires
-previous_8khz-requires c = search zneeds

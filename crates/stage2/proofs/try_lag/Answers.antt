@@ -53,12 +53,3 @@ pub returns-else-is_listed : goal.returns-else-is_listed
 returns-else-is_listed c =
     let a = c.args in
     with_unlisted (search_in a.c_8khz.now a.kept.now a.by) a.d a.best (sym c.is_listed.ensures ∙ c.if-is_listed.false)
-
-pub is_listed-requires : goal.is_listed-requires
-is_listed-requires c = search zneeds
-
-pub best_contour-found-requires : goal.best_contour-found-requires
-best_contour-found-requires c = search zneeds
-
-pub consider-requires : goal.consider-requires
-consider-requires c = search zneeds
