@@ -12,7 +12,7 @@ use Rattle.pitch_settings.specs.SettingsLaws.{accepted_settings, analysed_held}
 use Rattle.pitch_table.specs.declared.Row.{Row}
 use Rattle.pitch_table.specs.Row.{numbers, voiced_row, unpitched_row}
 use Rattle.silk_tables.specs.Tables.{contours, contours2, in_use, greatest_lag, greatest_index}
-use Rattle.silk_tables.specs.TableLaws.{in_use_bounds}
+use Rattle.silk_tables.proofs.TableLaws.{in_use_bounds}
 use Rattle.silk_tables.specs.ContourLaws.{contours_le_34}
 use Rattle.silk_tables.specs.Rebuild.{carried, CarriedPair}
 use Rattle.silk_tables.specs.CarriedLaws.{carried_pair, carried_yes}

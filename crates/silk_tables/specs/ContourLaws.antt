@@ -118,20 +118,3 @@ contours_le_34 fs nb cx = let a = contours_le fs nb cx in let b = entries_le fs 
 
     entries_le : (fs nb : ℕ) → book_entries fs nb ≤ 34
     entries_le fs nb = by (eqb fs 8) (eqb nb 4)
-
--- every offset of a book lies within -9 to 9
-far : (t : Bool) → table_within (negsuc 8) (pos 9) (cond t cb_lags_stage3 cb_lags_stage3_10_ms) ≡ true
-unfolding table_within all_of within cb_lags_stage3 cb_lags_stage3_10_ms
-far true = refl
-far false = refl
-
-pub book_bounds : (fs nb k j : ℕ) → (negsuc 8 ≤ℤ book fs nb k j) × (book fs nb k j ≤ℤ pos 9)
-unfolding book offset
-book_bounds fs nb k j = by (eqb fs 8)
-  where
-    by : (t : Bool) → (negsuc 8 ≤ℤ cond t (offset2 nb k j) (offset nb k j)) × (cond t (offset2 nb k j) (offset nb k j) ≤ℤ pos 9)
-    by true =
-        let p = offset2_ge nb k j in
-        let q = offset2_le nb k j in
-        (le_of (negsuc 8) (offset2 nb k j) (omega zarith), le_of (offset2 nb k j) (pos 9) (omega zarith))
-    by false = (entry_ge (negsuc 8) (pos 9) (cond (eqb nb 4) cb_lags_stage3 cb_lags_stage3_10_ms) (far (eqb nb 4)) k j, entry_le (negsuc 8) (pos 9) (cond (eqb nb 4) cb_lags_stage3 cb_lags_stage3_10_ms) (far (eqb nb 4)) k j)

@@ -9,7 +9,7 @@ use Rattle.zint.specs.TestLaws.{lt_false}
 use Rattle.zint.specs.DiffLaws.{v, n as num, ◌⊕◌, le_of, sfits_by, sfits_of_ud, zarith}
 use Rattle.silk_tables.specs.Tables.{offset, offset2}
 use Rattle.silk_tables.specs.Rebuild.{lag_min, primary, book, rebuilt, Coded}
-use Rattle.silk_tables.specs.ContourLaws.{book_8, book_other, book_bounds}
+use Rattle.silk_tables.specs.ContourLaws.{book_8, book_other}
 
 -- ---- the sums fit
 
@@ -18,14 +18,6 @@ primary_fits {fs} {nb} {index} c =
     let p = c.index_ge in
     let q = c.index_le in
     sfits_by w32 (num (2 * fs) ⊕ v index) (omega zarith) (omega zarith)
-
-pub sum_fits : {fs nb : ℕ} {index : ℤ} {contour k : ℕ} → Coded fs nb index contour k → SFits w32 (pos (lag_min fs) +ℤ index +ℤ book fs nb k contour)
-sum_fits {fs} {nb} {index} {contour} {k} c =
-    let p = c.index_ge in
-    let q = c.index_le in
-    let b = (book_bounds fs nb k contour).0 in
-    let d = (book_bounds fs nb k contour).1 in
-    sfits_by w32 (num (2 * fs) ⊕ v index ⊕ v (book fs nb k contour)) (omega zarith) (omega zarith)
 
 -- ---- a held number lies between the two bounds
 

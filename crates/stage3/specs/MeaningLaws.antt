@@ -15,7 +15,7 @@ use Rattle.zint.specs.OrderLaws as order
 use Rattle.silk_macros.specs.Divide.{by_zero}
 use Rattle.silk_macros.specs.DivideLaws.{by_zero_is}
 use Rattle.silk_tables.specs.Tables.{in_use, offset, greatest_lag}
-use Rattle.silk_tables.specs.TableLaws.{in_use_bounds}
+use Rattle.silk_tables.proofs.TableLaws.{in_use_bounds}
 use Rattle.best.specs.Best.{some, Place, none, at, best, BestOf}
 use Rattle.best.specs.BestLaws.{some_find, some_none}
 use Rattle.best.proofs.BestOfLaws.{best_outcome, BestBelow}

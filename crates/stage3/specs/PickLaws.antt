@@ -10,7 +10,7 @@ use Rattle.zint.specs.Wrap.{wrap}
 use Rattle.zint.specs.WrapLaws.{wrap_fits}
 use Rattle.silk_macros.specs.Macros.{smulwb}
 use Rattle.silk_tables.specs.Tables.{TableSettings, in_use, offset, least_lag, greatest_lag, range_high}
-use Rattle.silk_tables.specs.TableLaws.{offset_ge, offset_le, low_ge, high_le}
+use Rattle.silk_tables.proofs.TableLaws.{offset_ge, offset_le, low_ge, high_le}
 use Rattle.silk_tables.specs.ContourLaws.{greatest_lag_le, greatest_lag_ge}
 use Rattle.stage3.specs.Pick.{first_tried, last_tried, bias_of, biased}
 use Rattle.stage3.specs.Stage3.{sat_sum}

@@ -9,7 +9,7 @@ use Rattle.std.proofs.Math.Arith.{digits_div, digits_mod}
 use Rattle.std.specs.Int.Signed.{lt_z}
 use Rattle.zint.specs.Minus.{minus}
 use Rattle.silk_tables.specs.Tables.{in_use}
-use Rattle.silk_tables.specs.TableLaws.{in_use_bounds}
+use Rattle.silk_tables.proofs.TableLaws.{in_use_bounds}
 use Rattle.stage3_arrays.specs.Arrays.{frame_array, cross_at, energy_at}
 use Rattle.stage3_arrays.specs.ArrayLaws.{frame_array_at}
 use Rattle.std.specs.Int.{w32}

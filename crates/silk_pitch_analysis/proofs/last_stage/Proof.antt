@@ -10,7 +10,7 @@ use Rattle.zint.specs.ReadLaws.{r_var}
 use Rattle.zint.specs.RuleLaws.{zneeds}
 use Rattle.pitch_settings.specs.SettingsLaws.{accepted_settings}
 use Rattle.silk_tables.specs.Stage2Laws.{contours2_bounds}
-use Rattle.silk_tables.specs.TableLaws.{in_use_bounds}
+use Rattle.silk_tables.proofs.TableLaws.{in_use_bounds}
 use Rattle.silk_tables.specs.ContourLaws.{greatest_lag_le}
 use Rattle.stage3.specs.Stage3.{stage3}
 use Rattle.stage3.specs.declared.Found.{Found}

@@ -4,7 +4,7 @@ use native.Mathlib.Omega.{arith}
 use borrow.Author.Rules.{rules}
 use Rattle.silk_tables.specs.Tables.{offset, cb_lags_stage3, cb_lags_stage3_10_ms}
 use Rattle.silk_tables.specs.EntryLaws.{entry_4, entry_2, wide_is}
-use Rattle.silk_tables.specs.TableLaws.{in_use_bounds, in_use_other}
+use Rattle.silk_tables.proofs.TableLaws.{in_use_bounds, in_use_other}
 use Rattle.silk_tables.proofs.lag_cb.Goals as goal
 
 pub bounds-j : goal.bounds-j

@@ -4,7 +4,7 @@ use native.Mathlib.Omega.{arith}
 use borrow.Author.Rules.{rules}
 use Rattle.silk_tables.specs.Tables.{offset2, cb_lags_stage2, cb_lags_stage2_10_ms}
 use Rattle.silk_tables.specs.EntryLaws.{entry_4, entry_2, wide_is}
-use Rattle.silk_tables.specs.TableLaws.{two_or}
+use Rattle.silk_tables.proofs.TableLaws.{two_or}
 use Rattle.silk_tables.specs.Stage2Laws.{entries2_4, entries2_other}
 use Rattle.silk_tables.proofs.lag_cb_stage2.Goals as goal
 

@@ -9,7 +9,7 @@ use native.Mathlib.Omega.{arith}
 use Rattle.zint.specs.BoundLaws.{fits_abs}
 use Rattle.zint.specs.ReadLaws.{Reads, r_got, f_sub}
 use Rattle.silk_tables.specs.Tables.{range_low, range_high, range_count}
-use Rattle.silk_tables.specs.TableLaws.{span_fits, span_nonneg}
+use Rattle.silk_tables.proofs.TableLaws.{span_fits, span_nonneg}
 use Rattle.silk_tables.proofs.lag_count.Goals as goal
 
 -- the two ends, as they are read

@@ -8,7 +8,7 @@ use Rattle.zint.specs.BoundLaws.{fits_abs}
 use Rattle.zint.specs.ShiftLaws.{nonneg_abs}
 use Rattle.zint.specs.ReadLaws.{Reads, r_got, r_nat, r_add, f_add, as_unsigned}
 use Rattle.silk_tables.specs.Tables.{range_low, first_lag}
-use Rattle.silk_tables.specs.TableLaws.{first_fits, first_nonneg}
+use Rattle.silk_tables.proofs.TableLaws.{first_fits, first_nonneg}
 use Rattle.silk_tables.proofs.lag_first.Goals as goal
 
 -- the first lag tried, the range's start, and their sum, as they are read

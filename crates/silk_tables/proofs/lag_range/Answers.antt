@@ -6,7 +6,7 @@ use lib.ListN.{get_or}
 use borrow.Author.Rules.{rules}
 use Rattle.silk_tables.specs.Tables.{lag_range_stage3, lag_range_stage3_10_ms}
 use Rattle.silk_tables.specs.EntryLaws.{wide_is}
-use Rattle.silk_tables.specs.TableLaws.{range_4, range_other}
+use Rattle.silk_tables.proofs.TableLaws.{range_4, range_other}
 use Rattle.silk_tables.proofs.lag_range.Goals as goal
 
 pub returns-then-nb_subfr-eq-PE_MAX_NB_SUBFR : goal.returns-then-nb_subfr-eq-PE_MAX_NB_SUBFR

@@ -20,7 +20,7 @@ use Rattle.stage2_correlations.specs.Rows.{subframe_row}
 use Rattle.stage2_correlations.specs.RowLaws.{subframe_row_kept, zero_in2, zero_row}
 use Rattle.stage2.specs.declared.Stage2.TheVariants.{ZeroDivisor}
 use Rattle.stage2.specs.NumberLaws.{and_numbers}
-use Rattle.silk_tables.specs.TableLaws.{two_to_four}
+use Rattle.silk_tables.proofs.TableLaws.{two_to_four}
 use Rattle.silk_tables.specs.Stage2Laws.{contours2_bounds, contours2_le}
 use Rattle.stage2.specs.Search.{at2, SixteenBits, HandedSearch, ContoursTried, lag_search, search_in, BestOfAll}
 use Rattle.stage2.specs.declared.LagSearch.{LagSearch}

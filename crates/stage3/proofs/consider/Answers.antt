@@ -8,7 +8,7 @@ use lib.Signed.{mag, lt_z, ◌≤ℤ◌, le_z_yes, lt_z_yes}
 use mir.Syntax.{w32}
 use mir.Val.{SFits, to_z, of_z}
 use Rattle.zint.specs.ReadLaws.{r_var, r_got, r_holds, t_above, via_lt}
-use Rattle.silk_tables.specs.TableLaws.{in_use_bounds}
+use Rattle.silk_tables.proofs.TableLaws.{in_use_bounds}
 use Rattle.stage3.specs.Pick.{quotient_of, biased}
 use Rattle.stage3.specs.SearchLaws.{stopped, better, lower, beyond, passed}
 use Rattle.silk_macros.specs.declared.Quotient.{Quotient}

@@ -8,7 +8,7 @@ use mir.Syntax.{w32}
 use mir.Val.{to_z, of_z}
 use Rattle.zint.specs.ReadLaws.{r_var, r_got, r_as, r_holds}
 use Rattle.silk_tables.specs.Tables.{in_use}
-use Rattle.silk_tables.specs.TableLaws.{in_use_bounds}
+use Rattle.silk_tables.proofs.TableLaws.{in_use_bounds}
 use Rattle.stage3.specs.Pick.{first_tried, reached}
 use Rattle.stage3.specs.Stage3.{sat_sum}
 use Rattle.stage3.specs.PickLaws.{bias_low, bias_high, few_lags, last_le, row_end}

@@ -9,7 +9,7 @@ use mir.Syntax.{w32}
 use Rattle.zint.specs.ReadLaws.{r_got}
 use Rattle.zint.specs.RuleLaws.{zneeds}
 use Rattle.silk_tables.specs.Tables.{TableSettings, cb_lags_stage3, cb_lags_stage3_10_ms, in_use, offset, range_low, range_place}
-use Rattle.silk_tables.specs.TableLaws.{in_use_bounds, in_use_other, two_of, place_fits, place_nonneg, place_total, total_le}
+use Rattle.silk_tables.proofs.TableLaws.{in_use_bounds, in_use_other, two_of, place_fits, place_nonneg, place_total, total_le}
 use Rattle.silk_tables.specs.EntryLaws.{entry_4, entry_2}
 use Rattle.stage3_arrays.specs.Arrays.{subframe_array, Placed}
 use native.Mathlib.Omega.{arith}

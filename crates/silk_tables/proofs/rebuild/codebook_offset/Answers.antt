@@ -4,7 +4,7 @@ use native.Mathlib.Omega.{arith}
 use lib.Dec.{lit≤}
 use mir.Syntax.{w32}
 use Rattle.zint.specs.ReadLaws.{r_got}
-use Rattle.silk_tables.specs.TableLaws.{settings_of}
+use Rattle.silk_tables.proofs.TableLaws.{settings_of}
 use Rattle.silk_tables.specs.ContourLaws.{entries_8, entries_other, book_8, book_other}
 use Rattle.silk_tables.proofs.rebuild.codebook_offset.Goals as goal
 

@@ -7,7 +7,8 @@ use mir.Val.{to_z, of_z}
 use Rattle.zint.specs.ClampLaws.{clamp_hi, clamp_lo, clamp_in}
 use Rattle.zint.specs.ReadLaws.{Reads, r_nat, r_as, r_var, r_got, r_add, f_add, t_lt}
 use Rattle.silk_tables.specs.Rebuild.{lag_min, lag_max, primary, book, rebuilt}
-use Rattle.silk_tables.specs.RebuildLaws.{primary_fits, sum_fits}
+use Rattle.silk_tables.specs.RebuildLaws.{primary_fits}
+use Rattle.silk_tables.proofs.BookLaws.{sum_fits}
 use Rattle.silk_tables.proofs.rebuild.lag_of.Goals as goal
 
 -- the least lag, and the primary lag that is counted from it
