@@ -1,4 +1,6 @@
 // What a page holds, read by place: whether it is a sheet, its settings, its frames and their rows.
+#![tactic(auto)]
+
 ghost use Rattle.std.specs.Prelude.{true, cond, ◌≡◌, ◌+◌, ◌*◌, ◌<◌, ◌≤◌, length};
 ghost use Rattle.std.proofs.lemmas.List.Edits.{sets};
 ghost use Rattle.sheet_page.specs.Page.{sheet_settings, frames_in, voiced_before, head_in, row_in, head_good, sizes_good, rows_good, well_formed, page_no, rows_in, numbers_of};
@@ -15,7 +17,7 @@ use sheet_sections::{
 };
 
 // The settings of a sheet, how many frames it has, and how many of them are voiced.
-#[derive(Drop)]
+#[derive(Clone, Copy)]
 pub struct Head {
     pub settings: Settings,
     pub frames: usize,

@@ -1,0 +1,10 @@
+-- The invariants of `put_rows`.
+use mathlib.Core.Path.{◌≡◌}
+use Prim.Native.Nat.{◌≤◌}
+use lib.Seq.{sets}
+use Rattle.sheet_page.specs.Page.{voiced_before, numbers_of}
+use Rattle.sheet_page.specs.PageLaws.{first_rows}
+use Rattle.sheet_page.proofs.put_rows.Given as goal
+
+abbrev pub invariant-loop-i : goal.invariant-loop-i
+invariant-loop-i l = (l.i ≤ l.frames) × (l.seen ≡ voiced_before l.page l.i) × (l.table ≡ sets l.initial.table 0 (numbers_of (first_rows l.page l.i)))
