@@ -1,12 +1,15 @@
 // Runs the frame call on a list of frames from standard input and prints, for each kind of frame, how many it answers as the source does.
 // A record is the frame's kind, its rate, subframes and complexity (a byte each), the two thresholds, the previous lag and the previous correlation (4 bytes each), N samples
 // (2 bytes each), then the source's row: verdict, lag index, contour, correlation and four lags (4 bytes each). All are little-endian.
+#![tactic(auto)]
+
 ghost use Rattle.std.specs.Prelude.{◌<◌, ◌≤◌};
 
-use cases_io::{byte_at, count, i32_at, load_i16s, report, skip};
-use libc::STDIN_FILENO;
+use cases_io::{byte_at, count, i32_at, load_i16s, read_full, report, skip};
 use pitch_settings::{Settings, frame_length, settings_no};
 use silk_pitch_analysis::{FrameAnswer, Verdict, silk_pitch_analysis_core};
+use std::io;
+use std::io::{Read, Write};
 
 // What the lag places hold before the call; no lag is negative.
 const UNTOUCHED: i32 = -7;
@@ -84,40 +87,41 @@ fn samples_of(s: Settings) -> usize
 }
 
 // Reads the rest of a record and tells whether the call agrees. A record that is cut short does not.
-fn record_agrees(head: &[u8]) -> bool {
+fn record_agrees<R: Read>(input: &mut R, head: &[u8]) -> io::Result<bool> {
     let s = settings_of(head);
     let n = samples_of(s);
     let size = 2 * n + 32;
     let mut body = [0u8; 1312];
-    let got = io::read_full(STDIN_FILENO, &mut body[..size]);
+    let got = read_full(input, &mut body[..size])?;
     if got != size {
-        return false;
+        return Ok(false);
     }
-    agrees(&body, n, s, i32_at(head, 12), i32_at(head, 16))
+    Ok(agrees(&body, n, s, i32_at(head, 12), i32_at(head, 16)))
 }
 
 // Counts the records up to the first that is cut in its head or of an unknown kind, at most 100,000.
-fn replay(agreed: &mut [u64; 30], total: &mut [u64; 30]) {
+fn replay<R: Read>(input: &mut R, agreed: &mut [u64; 30], total: &mut [u64; 30]) -> io::Result<()> {
     for _ in 0..100000usize {
         let mut head = [0u8; 20];
-        let got = io::read_full(STDIN_FILENO, &mut head);
+        let got = read_full(input, &mut head)?;
         let kind = byte_at(&head, 0) as usize;
         if got < 20 || kind >= 30 {
-            return;
+            break;
         }
-        let same = record_agrees(&head);
+        let same = record_agrees(input, &head)?;
         count(agreed, total, kind, same);
     }
+    Ok(())
 }
 
 // An array's length is known by its type, whatever was counted in it.
-fn report_all(agreed: &[u64; 30], total: &[u64; 30]) {
-    report(agreed, total);
+fn report_all<W: Write>(output: &mut W, agreed: &[u64; 30], total: &[u64; 30]) -> io::Result<()> {
+    report(output, agreed, total)
 }
 
-fn main() {
+fn main(rt: HostRuntime) -> io::Result<()> {
     let mut agreed = [0u64; 30];
     let mut total = [0u64; 30];
-    replay(&mut agreed, &mut total);
-    report_all(&agreed, &total);
+    replay(&mut rt.stdin(), &mut agreed, &mut total)?;
+    report_all(&mut rt.stdout(), &agreed, &total)
 }

@@ -1,14 +1,18 @@
 // Rebuilds the lags of every pair there is and prints how many are those that the source assembles: at each rate and subframe count, every complexity, lag index and
 // contour in use. Standard input is the source's list in that order: rate, subframes, complexity (a byte each), index (2 bytes), contour (a byte), then a lag for each
 // subframe (2 bytes each), little-endian.
+#![tactic(auto)]
+
 ghost use Rattle.std.specs.Prelude.{◌<◌, ◌≤◌};
 
-use cases_io::{Tally, byte_at, skip, u16_at};
+use cases_io::{Tally, byte_at, read_full, room, skip, u16_at};
 use silk_tables::rebuild::{Rebuilt, rebuilt_lag};
 use silk_tables::{contours_in_use, greatest_index};
+use std::io;
+use std::io::Write;
 
 // A rate, a subframe count and a complexity.
-#[derive(Drop)]
+#[derive(Clone, Copy)]
 struct LagSettings {
     fs_khz: usize,
     nb_subfr: usize,
@@ -93,7 +97,14 @@ fn all_indices(bytes: &[u8], run: Run, s: LagSettings) -> Run
 }
 
 // All complexities at one rate and subframe count, with a line for them; the place after them.
-fn all_complexities(bytes: &[u8], at: usize, fs_khz: usize, nb_subfr: usize, name: &[u8]) -> usize {
+fn all_complexities<W: Write>(
+    output: &mut W,
+    bytes: &[u8],
+    at: usize,
+    fs_khz: usize,
+    nb_subfr: usize,
+    name: &[u8],
+) -> io::Result<usize> {
     let mut now = Run {
         at: at,
         tally: Tally::none(),
@@ -109,24 +120,25 @@ fn all_complexities(bytes: &[u8], at: usize, fs_khz: usize, nb_subfr: usize, nam
             },
         );
     }
-    now.tally.print(name);
-    now.at
+    let end = now.at;
+    now.tally.print(output, name)?;
+    Ok(end)
 }
 
-fn replay(bytes: &[u8]) {
-    let at = all_complexities(bytes, 0, 8, 2, b"8 kHz, 2 subframes:");
-    let at = all_complexities(bytes, at, 8, 4, b"8 kHz, 4 subframes:");
-    let at = all_complexities(bytes, at, 12, 2, b"12 kHz, 2 subframes:");
-    let at = all_complexities(bytes, at, 12, 4, b"12 kHz, 4 subframes:");
-    let at = all_complexities(bytes, at, 16, 2, b"16 kHz, 2 subframes:");
-    let at = all_complexities(bytes, at, 16, 4, b"16 kHz, 4 subframes:");
+fn replay<W: Write>(output: &mut W, bytes: &[u8]) -> io::Result<()> {
+    let at = all_complexities(output, bytes, 0, 8, 2, b"8 kHz, 2 subframes:")?;
+    let at = all_complexities(output, bytes, at, 8, 4, b"8 kHz, 4 subframes:")?;
+    let at = all_complexities(output, bytes, at, 12, 2, b"12 kHz, 2 subframes:")?;
+    let at = all_complexities(output, bytes, at, 12, 4, b"12 kHz, 4 subframes:")?;
+    let at = all_complexities(output, bytes, at, 16, 2, b"16 kHz, 2 subframes:")?;
+    let at = all_complexities(output, bytes, at, 16, 4, b"16 kHz, 4 subframes:")?;
     Tally::none()
         .counted(at == bytes.len())
-        .print(b"end of the list:");
+        .print(output, b"end of the list:")
 }
 
-fn main() {
-    let mut bytes = cases_io::room();
-    let n = io::read_full(0, &mut bytes);
-    replay(&bytes[..n]);
+fn main(rt: HostRuntime) -> io::Result<()> {
+    let mut bytes = room();
+    let n = read_full(&mut rt.stdin(), &mut bytes)?;
+    replay(&mut rt.stdout(), &bytes[..n])
 }

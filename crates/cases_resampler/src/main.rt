@@ -2,12 +2,16 @@
 // A case is its kind (0 down2, 1 private_ar2, 2 down2_3) and the number n of samples (4 bytes each), the states (4 bytes each: 2, 2, 6), for private_ar2 two coefficients (2 bytes
 // each), n samples (2 bytes each), then what the source leaves: the outputs (down2 n / 2 and down2_3 2 (n / 3) of 2 bytes each, private_ar2 n of 4 bytes each) and the states.
 // All are little-endian.
+#![tactic(auto)]
+
 ghost use Rattle.std.specs.Prelude.{◌<◌};
 
-use cases_io::{Tally, load_i16s, load_i32s, same_i16s, same_i32s, skip, u16_at};
+use cases_io::{Tally, load_i16s, load_i32s, read_full, room, same_i16s, same_i32s, skip, u16_at};
 use silk_resampler::{
     silk_resampler_down2, silk_resampler_down2_3, silk_resampler_private_ar2, source_filter,
 };
+use std::io;
+use std::io::Write;
 
 // Each of these three takes the place of the states.
 fn down2_agrees(bytes: &[u8], states: usize, n: usize) -> bool {
@@ -87,7 +91,7 @@ fn size(kind: u16, n: usize) -> usize
 }
 
 // Counts the cases of one kind. Kinds and numbers of samples are below 65536, so their first two bytes tell them.
-fn replay(bytes: &[u8], kind: u16, name: &[u8]) {
+fn replay<W: Write>(output: &mut W, bytes: &[u8], kind: u16, name: &[u8]) -> io::Result<()> {
     let mut tally = Tally::none();
     let mut at = 0;
     while at < bytes.len() {
@@ -98,13 +102,14 @@ fn replay(bytes: &[u8], kind: u16, name: &[u8]) {
         }
         at = skip(bytes, at, size(found, n));
     }
-    tally.print(name);
+    tally.print(output, name)
 }
 
-fn main() {
-    let mut bytes = cases_io::room();
-    let n = io::read_full(0, &mut bytes);
-    replay(&bytes[..n], 0, b"silk_resampler_down2");
-    replay(&bytes[..n], 1, b"silk_resampler_private_ar2");
-    replay(&bytes[..n], 2, b"silk_resampler_down2_3");
+fn main(rt: HostRuntime) -> io::Result<()> {
+    let mut bytes = room();
+    let n = read_full(&mut rt.stdin(), &mut bytes)?;
+    let mut output = rt.stdout();
+    replay(&mut output, &bytes[..n], 0, b"silk_resampler_down2")?;
+    replay(&mut output, &bytes[..n], 1, b"silk_resampler_private_ar2")?;
+    replay(&mut output, &bytes[..n], 2, b"silk_resampler_down2_3")
 }

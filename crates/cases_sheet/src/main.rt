@@ -4,16 +4,20 @@
 // each) and m bytes. All are little-endian.
 // For a write, settings, frame count and table are handed over, and the m bytes are the sheet that the page must begin with. For a read, the m bytes are the page, and settings, frame
 // count and table must come out. A table's number i is number i modulo n of those in the record.
+#![tactic(auto)]
+
 ghost use Rattle.std.specs.Prelude.{◌≤◌, length};
 ghost use Rattle.cases_sheet.specs.Rooms.{table_room, page_room, body_room};
 
 use cases_io::{
-    byte_at, count, i32_at, report, same_settings, settings_at, skip, u16_at, u32_at, usize_at,
+    byte_at, count, i32_at, read_full, report, same_settings, settings_at, skip, u16_at, u32_at,
+    usize_at,
 };
-use libc::STDIN_FILENO;
 use pitch_settings::Settings;
 use pitch_sheet::{Got, Wrote, read_sheet, write_sheet};
 use pitch_table::{MOST_FRAMES, ROW_SIZE};
+use std::io;
+use std::io::{Read, Write};
 
 // The frames, the numbers of a table, the bytes of a page, and the bytes after a record's head for which there is room.
 const FRAMES_ROOM: usize = MOST_FRAMES + 4;
@@ -24,7 +28,7 @@ const PAGE_ROOM: usize = 33000;
 
 const BODY_ROOM: usize = 4 * TABLE_ROOM + PAGE_ROOM;
 
-#[derive(Drop)]
+#[derive(Clone, Copy)]
 struct Case {
     // 0 write, 1 read
     call: usize,
@@ -214,43 +218,44 @@ fn case_of(head: &[u8]) -> Case {
 }
 
 // Reads the rest of a record and tells whether the call agrees. A record that is cut short or too long does not.
-fn record_agrees(c: Case) -> bool {
+fn record_agrees<R: Read>(input: &mut R, c: Case) -> io::Result<bool> {
     let numbers = c.numbers;
     let bytes = c.bytes;
     if numbers > TABLE_ROOM || bytes > PAGE_ROOM {
-        return false;
+        return Ok(false);
     }
     let size = 4 * numbers + bytes;
     let mut body = [0u8; BODY_ROOM];
-    let got = io::read_full(STDIN_FILENO, &mut body[..size]);
+    let got = read_full(input, &mut body[..size])?;
     if got != size {
-        return false;
+        return Ok(false);
     }
-    case_agrees(&body, c)
+    Ok(case_agrees(&body, c))
 }
 
 // Counts the records up to the first that is cut in its head or of an unknown kind, at most 1,000,000.
-fn replay(agreed: &mut [u64; 20], total: &mut [u64; 20]) {
+fn replay<R: Read>(input: &mut R, agreed: &mut [u64; 20], total: &mut [u64; 20]) -> io::Result<()> {
     for _ in 0..1000000usize {
         let mut head = [0u8; 60];
-        let got = io::read_full(STDIN_FILENO, &mut head);
+        let got = read_full(input, &mut head)?;
         let kind = byte_at(&head, 0) as usize;
         if got < 60 || kind >= 20 {
-            return;
+            break;
         }
-        let same = record_agrees(case_of(&head));
+        let same = record_agrees(input, case_of(&head))?;
         count(agreed, total, kind, same);
     }
+    Ok(())
 }
 
 // An array's length is known by its type, whatever was counted in it.
-fn report_all(agreed: &[u64; 20], total: &[u64; 20]) {
-    report(agreed, total);
+fn report_all<W: Write>(output: &mut W, agreed: &[u64; 20], total: &[u64; 20]) -> io::Result<()> {
+    report(output, agreed, total)
 }
 
-fn main() {
+fn main(rt: HostRuntime) -> io::Result<()> {
     let mut agreed = [0u64; 20];
     let mut total = [0u64; 20];
-    replay(&mut agreed, &mut total);
-    report_all(&agreed, &total);
+    replay(&mut rt.stdin(), &mut agreed, &mut total)?;
+    report_all(&mut rt.stdout(), &agreed, &total)
 }

@@ -2,10 +2,14 @@
 // A case is its kind (4 bytes), then for kind 0 (silk_sum_sqr_shift) a length, the samples, energy and shift; for kind 1 (silk_inner_prod_aligned) a length, x, y and the sum;
 // for kind 2 (silk_pitch_xcorr) a length, the number of lags, the length of y, x, y and a sum for each lag. Samples are 2 bytes and all else 4, little-endian; no length reaches
 // 65536, so that the low 2 bytes tell it. Where y is too short for a lag the source sums what is there: these cases are a group of their own, with zeros after y.
+#![tactic(auto)]
+
 ghost use Rattle.std.specs.Prelude.{◌≡◌, ◌≤◌, ◌<◌, length};
 
-use cases_io::{Tally, i32_at, load_i16s, same_i32s, skip, u16_at};
+use cases_io::{Tally, i32_at, load_i16s, read_full, room, same_i32s, skip, u16_at};
 use silk_sigproc::{silk_inner_prod_aligned, silk_pitch_xcorr, silk_sum_sqr_shift};
+use std::io;
+use std::io::Write;
 
 // The number of 4 bytes that is `by` bytes after `at`.
 fn number(bytes: &[u8], at: usize, by: usize) -> usize
@@ -116,7 +120,7 @@ fn next(bytes: &[u8], at: usize) -> usize
 }
 
 // Replays the cases of one group.
-fn replay(bytes: &[u8], group: usize, name: &[u8]) {
+fn replay<W: Write>(output: &mut W, bytes: &[u8], group: usize, name: &[u8]) -> io::Result<()> {
     let mut tally = Tally::none();
     let mut at = 0;
     while at < bytes.len() {
@@ -125,15 +129,21 @@ fn replay(bytes: &[u8], group: usize, name: &[u8]) {
         }
         at = next(bytes, at);
     }
-    tally.print(name);
+    tally.print(output, name)
 }
 
-fn main() {
-    let mut bytes = cases_io::room();
-    let n = io::read_full(0, &mut bytes);
+fn main(rt: HostRuntime) -> io::Result<()> {
+    let mut bytes = room();
+    let n = read_full(&mut rt.stdin(), &mut bytes)?;
     let list = &bytes[..n];
-    replay(list, 0, b"silk_sum_sqr_shift");
-    replay(list, 1, b"silk_inner_prod_aligned");
-    replay(list, 2, b"silk_pitch_xcorr");
-    replay(list, 3, b"silk_pitch_xcorr, y followed by zeros");
+    let mut output = rt.stdout();
+    replay(&mut output, list, 0, b"silk_sum_sqr_shift")?;
+    replay(&mut output, list, 1, b"silk_inner_prod_aligned")?;
+    replay(&mut output, list, 2, b"silk_pitch_xcorr")?;
+    replay(
+        &mut output,
+        list,
+        3,
+        b"silk_pitch_xcorr, y followed by zeros",
+    )
 }

@@ -1,9 +1,13 @@
 // Runs the partial sort on a list of cases from standard input and prints how many of them it answers as the source does.
 // A case is L and K (4 bytes each), L values (2 bytes each), then the K indices (4 bytes each) and the L values (2 bytes each) that the source leaves; all little-endian.
+#![tactic(auto)]
+
 ghost use Rattle.std.specs.Prelude.{◌≡◌, ◌+◌, ◌*◌, ◌<◌, min, length};
 
-use cases_io::{Tally, load_i16s, same_i16s, skip, u32_at};
+use cases_io::{Tally, load_i16s, read_full, room, same_i16s, skip, u32_at};
 use silk_sort::silk_insertion_sort_decreasing_int16;
+use std::io;
+use std::io::Write;
 
 // Whether idx are the numbers of 4 bytes each from `at` on.
 fn same_indices(bytes: &[u8], at: usize, idx: &[usize]) -> bool {
@@ -46,7 +50,7 @@ fn next(bytes: &[u8], at: usize, l: usize, k: usize) -> usize
     skip(bytes, at, 8 + 4 * l + 4 * k)
 }
 
-fn replay(bytes: &[u8]) {
+fn replay<W: Write>(output: &mut W, bytes: &[u8]) -> io::Result<()> {
     let mut tally = Tally::none();
     let mut at = 0;
     while at < bytes.len() {
@@ -55,11 +59,11 @@ fn replay(bytes: &[u8]) {
         tally = tally.counted(agrees(bytes, at, l, k));
         at = next(bytes, at, l, k);
     }
-    tally.print(b"silk_insertion_sort_decreasing_int16");
+    tally.print(output, b"silk_insertion_sort_decreasing_int16")
 }
 
-fn main() {
-    let mut bytes = cases_io::room();
-    let n = io::read_full(0, &mut bytes);
-    replay(&bytes[..n]);
+fn main(rt: HostRuntime) -> io::Result<()> {
+    let mut bytes = room();
+    let n = read_full(&mut rt.stdin(), &mut bytes)?;
+    replay(&mut rt.stdout(), &bytes[..n])
 }

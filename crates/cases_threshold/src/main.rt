@@ -1,13 +1,17 @@
 // Runs the threshold call on a list of cases from standard input and prints, for each kind, how many it answers as the source's steps do.
 // A case is seven numbers of 4 bytes each, little-endian: the kind (0 in range, 1 out of range, 2 random), order, activity, type and tilt, the refusal's number or 0, and the
 // threshold (0 where refused).
+#![tactic(auto)]
+
 ghost use Rattle.std.specs.Prelude.{true, [], ◌∷◌, ◌≡◌, ◌+◌};
 ghost use Rattle.answers.specs.Answer.{answer_numbers};
 ghost use Rattle.cases_io.specs.Little.{u32_at, i32_at};
 ghost use Rattle.speech_threshold.specs.Threshold.{threshold_call, threshold_answer_numbers};
 
-use cases_io::{Tally, i32_at, skip, u32_at};
+use cases_io::{Tally, i32_at, read_full, room, skip, u32_at};
 use speech_threshold::{ThresholdAnswer, speech_threshold};
+use std::io;
+use std::io::Write;
 
 // Whether the answer is this number, with this threshold where the number is 0.
 fn says(answer: ThresholdAnswer, number: usize, threshold: i32) -> bool
@@ -38,7 +42,7 @@ fn agrees(bytes: &[u8], at: usize) -> bool
 }
 
 // Counts the cases of one kind and prints the line.
-fn replay(bytes: &[u8], kind: i32, name: &[u8]) {
+fn replay<W: Write>(output: &mut W, bytes: &[u8], kind: i32, name: &[u8]) -> io::Result<()> {
     let mut tally = Tally::none();
     let mut at = 0;
     while at < bytes.len() {
@@ -47,13 +51,14 @@ fn replay(bytes: &[u8], kind: i32, name: &[u8]) {
         }
         at = skip(bytes, at, 28);
     }
-    tally.print(name);
+    tally.print(output, name)
 }
 
-fn main() {
-    let mut bytes = cases_io::room();
-    let n = io::read_full(0, &mut bytes);
-    replay(&bytes[..n], 0, b"in range:");
-    replay(&bytes[..n], 1, b"out of range:");
-    replay(&bytes[..n], 2, b"random:");
+fn main(rt: HostRuntime) -> io::Result<()> {
+    let mut bytes = room();
+    let n = read_full(&mut rt.stdin(), &mut bytes)?;
+    let mut output = rt.stdout();
+    replay(&mut output, &bytes[..n], 0, b"in range:")?;
+    replay(&mut output, &bytes[..n], 1, b"out of range:")?;
+    replay(&mut output, &bytes[..n], 2, b"random:")
 }

@@ -1,8 +1,8 @@
 -- Which quotients of two numbers of 32 bits fit 32 bits: all but that of the least number by -1.
-use Rattle.std.specs.Prelude.{◌≡◌, refl, ℕ, zero, suc, ◌+◌, ◌*◌, ◌/◌, ◌^◌, ◌≤◌, ◌<◌, ℤ, pos, negsuc, neg_ℤ}
+use Rattle.std.specs.Prelude.{◌≡◌, refl, ℕ, zero, suc, ◌/◌, ◌^◌, ◌≤◌, ◌<◌, ℤ, pos, negsuc, neg_ℤ}
 use Rattle.std.proofs.Common.{ap, div-le_self, div-lt_iff_lt-mul, arith, SFits}
 use Rattle.std.proofs.Math.Decide.{dec_lt}
-use Rattle.std.specs.Int.Signed.{mag, quot_z}
+use Rattle.std.specs.Int.Signed.{quot_z}
 use Rattle.std.specs.Int.{w32}
 
 -- minus a number of size 2^31 at most

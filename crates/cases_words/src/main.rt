@@ -1,17 +1,21 @@
 // Runs the word arithmetic on a list of cases from standard input and prints, for each operation, how many cases it answers as the source does.
 // A case is five signed numbers of 4 bytes each, little-endian: the operation, a, b, c and what the source answers. A case outside of what an operation requires agrees with nothing.
+#![tactic(auto)]
+
 ghost use Rattle.std.specs.Prelude.{true, ◌≡◌, pos};
 ghost use Rattle.std.specs.Int.Signed.{quot_z};
 ghost use Rattle.std.specs.Int.{w32};
 ghost use Rattle.std.proofs.Common.{SFits};
 
-use cases_io::{Tally, i16_at, i32_at, skip};
+use cases_io::{Tally, i16_at, i32_at, read_full, room, skip};
 use silk_macros::{
     Quotient, silk_add_sat16, silk_add_sat32, silk_clz_frac, silk_clz32, silk_div32, silk_div32_16,
     silk_div32_varq, silk_limit_32, silk_lin2log, silk_lshift, silk_lshift_sat32, silk_mul,
     silk_rshift, silk_rshift_round, silk_sat16, silk_smlabb, silk_smlawb, silk_smmul, silk_smulbb,
     silk_smulwb,
 };
+use std::io;
+use std::io::Write;
 use zint::{bits_u32, rotate_right_i32, wrapping_add_i32, wrapping_mul_i32, wrapping_sub_i32};
 
 // Operations 0 to 4, 20 to 22 and 24: products and sums.
@@ -163,7 +167,7 @@ fn agrees(bytes: &[u8], at: usize, op: i32) -> bool {
 }
 
 // Counts the cases of one operation and prints the line.
-fn replay(bytes: &[u8], op: i32, name: &[u8]) {
+fn replay<W: Write>(output: &mut W, bytes: &[u8], op: i32, name: &[u8]) -> io::Result<()> {
     let mut tally = Tally::none();
     let mut at = 0;
     while at < bytes.len() {
@@ -172,40 +176,40 @@ fn replay(bytes: &[u8], op: i32, name: &[u8]) {
         }
         at = skip(bytes, at, 20);
     }
-    tally.print(name);
+    tally.print(output, name)
 }
 
 // A line for each operation, in the order of their numbers.
-fn replay_all(bytes: &[u8]) {
-    replay(bytes, 0, b"silk_smulwb");
-    replay(bytes, 1, b"silk_smlawb");
-    replay(bytes, 2, b"silk_smulbb");
-    replay(bytes, 3, b"silk_smmul");
-    replay(bytes, 4, b"silk_mul");
-    replay(bytes, 5, b"silk_rshift");
-    replay(bytes, 6, b"silk_lshift");
-    replay(bytes, 7, b"silk_rshift_round");
-    replay(bytes, 8, b"silk_sat16");
-    replay(bytes, 9, b"silk_add_sat16");
-    replay(bytes, 10, b"silk_add_sat32");
-    replay(bytes, 11, b"silk_lshift_sat32");
-    replay(bytes, 12, b"silk_limit_32");
-    replay(bytes, 13, b"silk_div32");
-    replay(bytes, 14, b"silk_div32_16");
-    replay(bytes, 15, b"silk_div32_varq");
-    replay(bytes, 16, b"silk_div32_varq by zero");
-    replay(bytes, 17, b"silk_clz32");
-    replay(bytes, 18, b"silk_clz_frac");
-    replay(bytes, 19, b"silk_lin2log");
-    replay(bytes, 20, b"wrapping_add");
-    replay(bytes, 21, b"wrapping_sub");
-    replay(bytes, 22, b"wrapping_mul");
-    replay(bytes, 23, b"rotate_right");
-    replay(bytes, 24, b"silk_smlabb");
+fn replay_all<W: Write>(output: &mut W, bytes: &[u8]) -> io::Result<()> {
+    replay(output, bytes, 0, b"silk_smulwb")?;
+    replay(output, bytes, 1, b"silk_smlawb")?;
+    replay(output, bytes, 2, b"silk_smulbb")?;
+    replay(output, bytes, 3, b"silk_smmul")?;
+    replay(output, bytes, 4, b"silk_mul")?;
+    replay(output, bytes, 5, b"silk_rshift")?;
+    replay(output, bytes, 6, b"silk_lshift")?;
+    replay(output, bytes, 7, b"silk_rshift_round")?;
+    replay(output, bytes, 8, b"silk_sat16")?;
+    replay(output, bytes, 9, b"silk_add_sat16")?;
+    replay(output, bytes, 10, b"silk_add_sat32")?;
+    replay(output, bytes, 11, b"silk_lshift_sat32")?;
+    replay(output, bytes, 12, b"silk_limit_32")?;
+    replay(output, bytes, 13, b"silk_div32")?;
+    replay(output, bytes, 14, b"silk_div32_16")?;
+    replay(output, bytes, 15, b"silk_div32_varq")?;
+    replay(output, bytes, 16, b"silk_div32_varq by zero")?;
+    replay(output, bytes, 17, b"silk_clz32")?;
+    replay(output, bytes, 18, b"silk_clz_frac")?;
+    replay(output, bytes, 19, b"silk_lin2log")?;
+    replay(output, bytes, 20, b"wrapping_add")?;
+    replay(output, bytes, 21, b"wrapping_sub")?;
+    replay(output, bytes, 22, b"wrapping_mul")?;
+    replay(output, bytes, 23, b"rotate_right")?;
+    replay(output, bytes, 24, b"silk_smlabb")
 }
 
-fn main() {
-    let mut bytes = cases_io::room();
-    let n = io::read_full(0, &mut bytes);
-    replay_all(&bytes[..n]);
+fn main(rt: HostRuntime) -> io::Result<()> {
+    let mut bytes = room();
+    let n = read_full(&mut rt.stdin(), &mut bytes)?;
+    replay_all(&mut rt.stdout(), &bytes[..n])
 }
