@@ -1,6 +1,6 @@
 -- A frame: what `silk_pitch_analysis_core` answers for the settings s, the frame's samples x and the previous lag and correlation (docs/SCOPE.md, Stages and Track;
 -- pitch_analysis.rs). Definitions only; what they say in words is in `Meaning`.
-use Rattle.std.specs.Prelude.{Bool, cond, List, [], ◌∷◌, ℕ, ◌*◌, ◌/◌, eqb, ltb, ℤ, pos, ◌-ℤ◌, length, take}
+use Rattle.std.specs.Prelude.{cond, List, [], ◌∷◌, ℕ, ◌*◌, ◌/◌, eqb, ltb, ℤ, pos, ◌-ℤ◌, length, take}
 use Rattle.answers.specs.Answer.{answer_numbers}
 use Rattle.lists.specs.Fill.{filled}
 use Rattle.pitch_settings.specs.declared.Settings.{Settings}

@@ -1,19 +1,18 @@
 -- Laws of a frame: its verdict's pair is one that the index code carries, what the stages are handed, and the answers in numbers.
-use Rattle.std.specs.Prelude.{◌≡◌, refl, Bool, true, false, cond, List, [], ◌∷◌, ◌⊎◌, ℕ, ◌+◌, ◌-◌, ◌*◌, ◌/◌, ◌≤◌, ◌<◌, eqb, ltb, ℤ, pos, nat_abs, ◌-ℤ◌, take, ◌<ℤ◌}
-use Rattle.std.proofs.Common.{sym, ◌∙◌, subst, arith, eq-eqb, le-ltb, eqb-true, ltb-false, take_all}
+use Rattle.std.specs.Prelude.{◌≡◌, refl, Bool, true, false, cond, List, [], ◌∷◌, ℕ, ◌+◌, ◌-◌, ◌*◌, ◌/◌, ◌≤◌, ◌<◌, eqb, ltb, ℤ, pos, ◌-ℤ◌, take}
+use Rattle.std.proofs.Common.{◌∙◌, subst, arith, eq-eqb, le-ltb, eqb-true, ltb-false, take_all}
 use Rattle.std.proofs.Math.Path.{ap}
 use Rattle.std.proofs.Math.Logic.{⊎_elim}
 use Rattle.std.proofs.lemmas.Bool.{eqb-false}
 use Rattle.std.proofs.Math.ListN.{length}
-use Rattle.zint.specs.DiffLaws.{eq_of, sub_ud', of_lt, zarith}
+use Rattle.zint.specs.DiffLaws.{eq_of, sub_ud'}
 use Rattle.pitch_settings.specs.declared.Settings.{Settings}
 use Rattle.pitch_settings.specs.Settings.{settings_no, held_no, frame_length}
 use Rattle.pitch_settings.specs.SettingsLaws.{accepted_settings, analysed_held}
 use Rattle.pitch_table.specs.declared.Row.{Row}
 use Rattle.pitch_table.specs.Row.{numbers, voiced_row, unpitched_row}
-use Rattle.silk_tables.specs.Tables.{contours, contours2, in_use, greatest_lag, greatest_index}
+use Rattle.silk_tables.specs.Tables.{contours, in_use, greatest_lag, greatest_index}
 use Rattle.silk_tables.proofs.TableLaws.{in_use_bounds}
-use Rattle.silk_tables.specs.ContourLaws.{contours_le_34}
 use Rattle.silk_tables.specs.Rebuild.{carried, CarriedPair}
 use Rattle.silk_tables.specs.CarriedLaws.{carried_pair, carried_yes}
 use Rattle.silk_resampler.specs.Down23.{source_filter}

@@ -1,7 +1,7 @@
 -- Each verdict of a frame comes exactly where `Meaning` says (`verdict_exactly`): the verdict has its meaning (`verdict_means`), and no other verdict has its own (`one_meaning`).
-use Rattle.std.specs.Prelude.{◌≡◌, Bool, cond, List, ◌⊎◌, ℕ, ◌+◌, ◌*◌, ◌/◌, ◌≤◌, ◌<◌, ℤ, pos, ◌-ℤ◌, length, ◌≤ℤ◌, ◌<ℤ◌}
+use Rattle.std.specs.Prelude.{◌≡◌, Bool, cond, List, ℕ, ◌*◌, ◌/◌, ℤ, pos, length, ◌≤ℤ◌}
 use Rattle.std.proofs.Math.Path.{refl, ap, subst}
-use Rattle.std.proofs.Common.{sym, ◌∙◌, inr, ⊎_elim, arith, eq-eqb, ne_eqb, eqb-true}
+use Rattle.std.proofs.Common.{sym, ◌∙◌, inr, arith, eq-eqb, ne_eqb, eqb-true}
 use Rattle.std.proofs.Math.Bool.{true, false}
 use Rattle.std.proofs.Math.Logic.{inl}
 use Rattle.std.proofs.lemmas.Bool.{eqb-false}
@@ -30,8 +30,8 @@ use Rattle.silk_pitch_analysis.specs.declared.Verdict.{Verdict}
 use Rattle.silk_pitch_analysis.specs.declared.Verdict.TheVariants.{Voiced, Unvoiced, ZeroDivisor}
 use Rattle.silk_pitch_analysis.specs.Frame.{scaled_lag, from_pair, last_stage, from_winner, second_stage, from_screen, staged, verdict_of}
 use Rattle.silk_pitch_analysis.specs.Steps.{WinnerRange}
-use Rattle.silk_pitch_analysis.specs.FrameLaws.{handed, eight_length, four_length}
-use Rattle.silk_pitch_analysis.specs.Meaning.{w, e, f, lags, Zero1, Zero2, Zero3, UnderBest, GoesOn, NonePasses, Won, Best3, Last, UnvoicedWhen, ZeroWhen, stage1_zero, stage2_zero, stage3_zero, VoicedWhen, Means, VerdictExactly}
+use Rattle.silk_pitch_analysis.specs.FrameLaws.{handed, four_length}
+use Rattle.silk_pitch_analysis.specs.Meaning.{w, e, f, lags, Zero1, Zero2, Zero3, GoesOn, Won, Last, UnvoicedWhen, ZeroWhen, stage1_zero, stage2_zero, stage3_zero, VoicedWhen, Means, VerdictExactly}
 
 module _ (s : Settings) (x : List ℤ) (prev corr : ℤ) (h : settings_no s ≡ 0) (len : length x ≡ frame_length s) where
   abbrev W : List ℤ

@@ -1,14 +1,14 @@
 -- Every verdict's pair is carried: its index is at most the greatest of its rate, and its contour is one in use.
-use Rattle.std.specs.Prelude.{◌≡◌, Bool, cond, List, ◌⊎◌, ℕ, ◌+◌, ◌*◌, ◌/◌, ◌≤◌, ◌<◌, ℤ, length, take}
+use Rattle.std.specs.Prelude.{◌≡◌, Bool, cond, List, ◌⊎◌, ℕ, ◌+◌, ◌*◌, ◌/◌, ◌≤◌, ℤ, length, take}
 use Rattle.std.proofs.Math.Path.{refl}
-use Rattle.std.proofs.Common.{sym, ap, ◌∙◌, subst, inl, inr, ⊎_elim, arith, eq-eqb, eqb-true, length-take-le}
+use Rattle.std.proofs.Common.{◌∙◌, inl, inr, ⊎_elim, arith, eqb-true, length-take-le}
 use Rattle.std.proofs.Math.Bool.{true, false}
 use Rattle.std.proofs.lemmas.Bool.{eqb-false}
 use Rattle.std.proofs.Math.Dec.{eqb}
 use Rattle.pitch_settings.specs.declared.Settings.{Settings}
 use Rattle.pitch_settings.specs.Settings.{settings_no, frame_length}
 use Rattle.pitch_settings.specs.SettingsLaws.{accepted_settings}
-use Rattle.silk_tables.specs.Tables.{contours, in_use, greatest_lag, greatest_index}
+use Rattle.silk_tables.specs.Tables.{greatest_lag, greatest_index}
 use Rattle.silk_tables.specs.ContourLaws.{contours_8, contours_other}
 use Rattle.frame_signals.specs.Scale.{scaled}
 use Rattle.frame_signals.specs.ScaleLaws.{length_scaled}
@@ -22,8 +22,6 @@ use Rattle.stage2.specs.declared.Stage2.TheVariants.{ZeroDivisor as Zero2, Unvoi
 use Rattle.stage3.specs.Stage3.{stage3}
 use Rattle.stage3.specs.declared.Found.{Found}
 use Rattle.stage3.specs.declared.Found.TheVariants.{Pair, ZeroDivisor as Zero3}
-use Rattle.silk_pitch_analysis.specs.declared.Verdict.{Verdict}
-use Rattle.silk_pitch_analysis.specs.declared.Verdict.TheVariants.{Voiced, Unvoiced, ZeroDivisor}
 use Rattle.silk_pitch_analysis.specs.Frame.{signal8, signal4, scaled_lag, from_pair, last_stage, from_winner, second_stage, from_screen, staged, verdict_of}
 use Rattle.silk_pitch_analysis.specs.Steps.{WinnerRange, VerdictCarried, unvoiced, zero_divisor}
 use Rattle.silk_pitch_analysis.specs.FrameLaws.{pair_carried, stage3_range}

@@ -1,4 +1,6 @@
 // The frame call: one whitened frame in; verdict, lag index, contour index, correlation and subframe lags out.
+#![tactic(auto)]
+
 ghost use Rattle.std.specs.Prelude.{◌≡◌, ◌+◌, ◌*◌, ◌<◌, ◌≤◌, length, take};
 ghost use Rattle.lists.specs.Fill.{filled};
 ghost use Rattle.pitch_settings.specs.Settings.{settings_no, frame_length};
@@ -18,7 +20,7 @@ use stage2::{Stage2, search_stage2};
 use stage3::{Found, search_stage3};
 
 // A frame's verdict, and a voiced frame's pair and correlation (Q15).
-#[derive(Drop)]
+#[derive(Clone, Copy)]
 pub enum Verdict {
     Voiced {
         index: i32,

@@ -1,0 +1,51 @@
+-- `silk_pitch_analysis::analyse` meets its contract.
+use mathlib.Core.Path.{◌≡◌, ap, ◌∙◌}
+use Prim.Native.Nat.{ℕ}
+use native.Mathlib.Omega.{arith}
+use lib.ListN.{length, take}
+use lib.Seq.{length-take-le}
+use Rattle.zint.specs.ReadLaws.{r_var}
+use Rattle.pitch_settings.specs.Settings.{frame_length}
+use Rattle.pitch_settings.specs.SettingsLaws.{accepted_settings}
+use Rattle.frame_signals.specs.Scale.{scaled}
+use Rattle.frame_signals.specs.ScaleLaws.{length_scaled, working_scaled}
+use Rattle.silk_pitch_analysis.specs.Frame.{staged, verdict_of}
+use Rattle.silk_pitch_analysis.proofs.analyse.Goals as goal
+
+pub frame_length-n-requires : goal.frame_length-n-requires
+frame_length-n-requires c = c.requires.0
+
+pub frame_shift-shift-requires : goal.frame_shift-shift-requires
+frame_shift-shift-requires c =
+    let a = accepted_settings _ c.requires.0 in
+    (omega (arith, a.some, a.within, c.frame_length-n.ensures), (omega (arith, c.frame_length-n.ensures, a.small), omega (arith, c.frame_length-n.ensures, c.requires.1)))
+
+pub scale_into-requires : goal.scale_into-requires
+scale_into-requires c =
+    (omega (arith, c.frame_length-n.ensures, c.requires.1), (omega (arith, c.frame_length-n.ensures, (accepted_settings _ c.requires.0).small), c.frame_shift-shift.ensures.1))
+
+pub working_frame-w-requires : goal.working_frame-w-requires
+working_frame-w-requires c =
+    (omega (arith, c.frame_length-n.ensures, c.requires.1), omega (arith, c.frame_length-n.ensures, (accepted_settings _ c.requires.0).small, c.scale_into.auto.scratch))
+
+pub analyse_working-requires : goal.analyse_working-requires
+analyse_working-requires c =
+    let a = c.args in
+    let frame = take (frame_length a.s) a.frame.now in
+    let working : c.working_frame-w.result.now ≡ scaled frame =
+    c.working_frame-w.ensures
+    ∙ working_scaled a.frame.now _ c.frame_length-n.result (omega (arith, c.frame_length-n.ensures, c.requires.1)) c.frame_shift-shift.ensures.0 c.scale_into.ensures
+    ∙ ap (λ (n : ℕ). scaled (take n a.frame.now)) c.frame_length-n.ensures in
+    (c.requires.0, ap length working ∙ length_scaled frame ∙ length-take-le (frame_length a.s) a.frame.now c.requires.1)
+
+pub returns : goal.returns
+unfolding verdict_of
+returns c =
+    let a = c.args in
+    let frame = take (frame_length a.s) a.frame.now in
+    let working : c.working_frame-w.result.now ≡ scaled frame =
+    c.working_frame-w.ensures
+    ∙ working_scaled a.frame.now _ c.frame_length-n.result (omega (arith, c.frame_length-n.ensures, c.requires.1)) c.frame_shift-shift.ensures.0 c.scale_into.ensures
+    ∙ ap (λ (n : ℕ). scaled (take n a.frame.now)) c.frame_length-n.ensures in
+    c.analyse_working.ensures
+    ∙ (λ i. staged a.s (working i) ((r_var c.ranges.prev_lag).val i) ((r_var c.ranges.prev_corr).val i))
