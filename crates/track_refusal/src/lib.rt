@@ -1,4 +1,6 @@
 // Which deliveries a running track refuses: the frames in samples, the tests of a delivery and their order.
+#![tactic(auto)]
+
 ghost use Rattle.std.specs.Prelude.{◌≡◌, ◌+◌, ◌/◌, ◌<◌, ◌≤◌, ltb, leb};
 ghost use Rattle.pitch_settings.specs.Settings.{settings_no, frame_length};
 ghost use Rattle.pitch_table.specs.Row.{row_size, most_frames};
