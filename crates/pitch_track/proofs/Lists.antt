@@ -1,11 +1,11 @@
 -- Lists: the samples held and then those delivered, and a list laid at the front of the places for samples held.
-use Prim.Native.Nat.{ℕ, zero, suc, ◌+◌, ◌-◌, ◌*◌, ◌≤◌, ◌<◌}
-use mathlib.Core.Path.{◌≡◌, refl, sym, ap, ◌∙◌}
-use mathlib.Core.List.{List, [], ◌∷◌, ◌++◌, append_assoc}
+use Prim.Native.Nat.{ℕ, suc, ◌+◌, ◌-◌, ◌≤◌, ◌<◌}
+use mathlib.Core.Path.{◌≡◌, sym, ap, ◌∙◌}
+use mathlib.Core.List.{List, ◌++◌}
 use native.Mathlib.Omega.{arith}
 use lib.IntN.{ℤ, pos}
-use lib.ListN.{length, get_or, take, drop, set, replicate, get_or-append, length-take, length-drop, length-append, length-replicate}
-use lib.Seq.{length-take-le, get_or-take, get_or-drop, get_or-append-add, take-suc, drop-cons, set_at, append_snoc, take_all, take-length, take-append_seam, take_at, drop_at, sets, sets-eq, drop-drop}
+use lib.ListN.{length, get_or, take, drop, set, get_or-append, length-drop, length-append, length-replicate}
+use lib.Seq.{length-take-le, get_or-take, get_or-drop, get_or-append-add, take-suc, drop-cons, set_at, append_snoc, take-length, take_at}
 use Rattle.pitch_settings.specs.Settings.{longest_frame}
 use Rattle.pitch_track.specs.Step.{zeros, padded}
 

@@ -1,4 +1,6 @@
 // A pitch track that is fed by deliveries of samples: start and deliver.
+#![tactic(auto)]
+
 ghost use Rattle.std.specs.Prelude.{◌≡◌, [], ◌∷◌, ◌++◌, ◌+◌, ◌*◌, ◌<◌, ◌≤◌, length, take, drop, get_or, pos};
 ghost use Rattle.answers.specs.Answer.{answer_numbers};
 ghost use Rattle.pitch_settings.specs.Settings.{settings_no, frame_length, longest_frame, hop_length};
