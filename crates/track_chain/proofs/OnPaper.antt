@@ -1,14 +1,14 @@
 -- The claim over a list of deliveries: one call takes the state on paper of J to that of J after the delivery, and so a chain of calls from a fresh start does.
-use Prim.Native.Nat.{ℕ, zero, suc, ◌+◌, ◌-◌, ◌*◌, ◌/◌, ◌≤◌, ◌<◌}
+use Prim.Native.Nat.{ℕ, ◌+◌, ◌-◌, ◌*◌, ◌/◌, ◌≤◌, ◌<◌}
 use mathlib.Core.Path.{◌≡◌, refl, sym, ap, ◌∙◌}
 use mathlib.Core.List.{List, [], ◌∷◌, ◌++◌, append_assoc, append-nil}
-use mathlib.Core.Logic.{◌⊎◌, ⊎_elim}
+use mathlib.Core.Logic.{⊎_elim}
 use native.Mathlib.Omega.{arith}
 use native.Mathlib.Nat.{add-mul, zero-mul}
 use lib.IntN.{ℤ}
 use lib.ListN.{length, take, drop, length-append, length-drop}
 use lib.Seq.{drop-drop, drop-append-le, take_at, drop_at, drop-append-add}
-use borrow.Author.Tests.{eq-eqb, ne_eqb, lt-ltb, le-ltb}
+use borrow.Author.Tests.{ne_eqb}
 use Rattle.pitch_settings.specs.declared.Settings.{Settings}
 use Rattle.pitch_settings.specs.Settings.{frame_length, hop_length, settings_no}
 use Rattle.pitch_settings.specs.SettingsLaws.{accepted_settings}
@@ -25,10 +25,10 @@ use Rattle.track_paper.specs.PaperLaws.{paper_over, paper_none, paper_seven, pap
 use Rattle.track_refusal.specs.Refusal.{delivery_refusal}
 use Rattle.track_refusal.specs.RefusalLaws.{over, seven, room, none}
 use Rattle.pitch_track.specs.declared.Track.{Track}
-use Rattle.pitch_track.specs.Step.{DeliveryOutcome, delivery_outcome, padded, start_no, start_call, fresh_track, zeros, delivery_no, pending, accepted_delivery, deliver_call}
+use Rattle.pitch_track.specs.Step.{delivery_outcome, padded, start_no, start_call, fresh_track, delivery_no, pending, accepted_delivery, deliver_call}
 use Rattle.pitch_track.proofs.Lists.{padded_front}
 use Rattle.pitch_track.proofs.Deliver.{refuses, accepts, made}
-use Rattle.track_chain.specs.Chain.{Left, then, chain, run_from_start, final_samples, paper_state, OnPaper, answer_nos, accepted_samples, accepted_in, finished, SameRows}
+use Rattle.track_chain.specs.Chain.{Left, chain, run_from_start, final_samples, paper_state, OnPaper, answer_nos, accepted_samples, accepted_in, finished, SameRows}
 
 -- the frames of J are within the limit and the table
 pub record Reached (s : Settings) (t j : List ℤ) : Type 0 where

@@ -1,11 +1,11 @@
 -- A chain of deliveries from a fresh start, and what the track on paper says of all of it (docs/SCOPE.md, Track). Definitions only.
-use Rattle.std.specs.Prelude.{ℕ, suc, ◌+◌, ◌-◌, ◌*◌, ◌/◌, ◌≤◌, ◌<◌, ◌≡◌, cond, List, [], ◌∷◌, ◌++◌, ℤ, length, take, drop, eqb}
+use Rattle.std.specs.Prelude.{ℕ, suc, ◌*◌, ◌/◌, ◌<◌, ◌≡◌, cond, List, [], ◌∷◌, ◌++◌, ℤ, length, take, drop, eqb}
 use Rattle.track_settings.specs.declared.TrackSettings.{TrackSettings}
 use Rattle.track_settings.specs.TrackSettings.{stored_settings, row_settings}
 use Rattle.pitch_track.specs.declared.Track.{Track}
 use Rattle.track_paper.specs.declared.TrackAnswer.{TrackAnswer}
 use Rattle.pitch_table.specs.Row.{row_size, numbers, row_at}
-use Rattle.track_paper.specs.Paper.{answer_no, track_limit, after, previous, no_previous, window, paper_row, paper_numbers, joined_samples, paper_answers, frames_done, samples_held, paper_table}
+use Rattle.track_paper.specs.Paper.{answer_no, track_limit, after, previous, no_previous, window, paper_row, joined_samples, paper_answers, frames_done, samples_held, paper_table}
 use Rattle.track_chain.specs.Meaning.{RowSays}
 use Rattle.pitch_track.specs.Step.{DeliveryOutcome, padded, start_call, deliver_call}
 
