@@ -1,4 +1,6 @@
 // What the program `frames` prints for a record: its bytes are taken apart, its frame is analysed, and its row is written as a line.
+#![tactic(auto)]
+
 ghost use Rattle.std.specs.Prelude.{◌≡◌, ◌≤◌, length};
 ghost use Rattle.pitch_settings.specs.Settings.{settings_no, longest_frame};
 ghost use Rattle.pitch_text.specs.Text.{row_text_bytes};
