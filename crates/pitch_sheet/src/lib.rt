@@ -1,4 +1,6 @@
 // The sheet: a track's settings and rows as bytes, written and read back. Neither call has a `requires`.
+#![tactic(auto)]
+
 ghost use Rattle.std.specs.Prelude.{[], ◌∷◌, ◌++◌, ◌≡◌, ◌*◌, ◌≤◌, pos, length};
 ghost use Rattle.answers.specs.Answer.{answer_numbers};
 ghost use Rattle.pitch_settings.specs.Settings.{held_no};
