@@ -1,4 +1,6 @@
 // What the program `sheet_read` prints: a sheet's bytes are read, and its settings and rows written as text.
+#![tactic(auto)]
+
 ghost use Rattle.std.specs.Prelude.{◌≡◌, true, List, ◌++◌, ℕ, ◌*◌, ◌≤◌, ltb, length};
 ghost use Rattle.pitch_settings.specs.Settings.{held_no};
 ghost use Rattle.pitch_table.specs.Row.{row_size, most_frames, row_at};
