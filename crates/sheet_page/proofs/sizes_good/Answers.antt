@@ -72,7 +72,7 @@ returns-then-u32_at-voiced c =
     let g = goal.at.returns-then-u32_at-voiced c in
     let p = c.args.page.now in
     rw (
-      eq-eqb (length p) (sheet_length (frames_in p) (voiced_in p)) (c.if-page-sheet_length.false ∙ length_is g.After-sheet_length),
+      eq-eqb (length p) (sheet_length (frames_in p) (voiced_in p)) (c.if-page-sheet_length.false ∙ length_is (goal.at.returns-then-u32_at-voiced c).After-sheet_length),
       ne_eqb (number_at count_bytes p (pairs_from p)) (voiced_in p) (λ e. c.if-u32_at-voiced.true (pairs_are g.After-u32_at ∙ e ∙ sym (voiced_are g.After-voiced_in-voiced))),
     )
 
@@ -82,7 +82,7 @@ returns c =
     let g = goal.at.returns c in
     let p = c.args.page.now in
     rw (
-      eq-eqb (length p) (sheet_length (frames_in p) (voiced_in p)) (c.if-page-sheet_length.false ∙ length_is g.After-sheet_length),
+      eq-eqb (length p) (sheet_length (frames_in p) (voiced_in p)) (c.if-page-sheet_length.false ∙ length_is (goal.at.returns c).After-sheet_length),
       eq-eqb (number_at count_bytes p (pairs_from p)) (voiced_in p) (sym (pairs_are g.After-u32_at) ∙ c.if-u32_at-voiced.false ∙ voiced_are g.After-voiced_in-voiced),
     )
     (ap₂ eqb (correlations_are g.After-u32_at-2) (voiced_are g.After-voiced_in-voiced))
