@@ -4,15 +4,10 @@ use native.Mathlib.Omega.{arith}
 use Rattle.pitch_settings.specs.Settings.{settings_no}
 use Rattle.pitch_settings.specs.SettingsLaws.{accepted_settings}
 use borrow.Author.Rules.{rules}
-use Rattle.cases_frames.proofs.samples_of.Statement.{statement}
-use Rattle.cases_frames.proofs.samples_of.Tie as tie
+use Rattle.cases_frames.proofs.samples_of.Goals as goal
 
-returns-2 : tie.Need-returns-2
-returns-2 c =
-    let s = c.before.before.before.args.s in
+pub returns : goal.returns
+returns c =
+    let s = c.args.s in
     let h : settings_no s ≡ 0 = search rules in
     omega (arith, (accepted_settings s h).small)
-
-pub samples-of-spec : {M : Type 1} → statement M
-samples-of-spec =
-    tie.close (tie.spec (λ c κs. search rules) (λ c. search rules) (λ c κs. search rules) returns-2)
