@@ -1,13 +1,17 @@
 -- `silk_pitch_analysis::analyse` meets its contract.
 use mathlib.Core.Path.{◌≡◌, ap, ◌∙◌}
-use Prim.Native.Nat.{ℕ}
+use mathlib.Core.List.{List}
+use Prim.Native.Nat.{ℕ, ◌≤◌}
 use native.Mathlib.Omega.{arith}
+use lib.IntN.{ℤ}
 use lib.ListN.{length, take}
 use lib.Seq.{length-take-le}
 use Rattle.zint.specs.ReadLaws.{r_var}
+use Rattle.lists.specs.Fill.{filled}
+use Rattle.pitch_settings.specs.declared.Settings.{Settings}
 use Rattle.pitch_settings.specs.Settings.{frame_length}
 use Rattle.pitch_settings.specs.SettingsLaws.{accepted_settings}
-use Rattle.frame_signals.specs.Scale.{scaled}
+use Rattle.frame_signals.specs.Scale.{scaled, down_shift, shifted_at, moved_count, holder}
 use Rattle.frame_signals.specs.ScaleLaws.{length_scaled, working_scaled}
 use Rattle.silk_pitch_analysis.specs.Frame.{staged, verdict_of}
 use Rattle.silk_pitch_analysis.proofs.analyse.Goals as goal
@@ -28,24 +32,20 @@ pub working_frame-w-requires : goal.working_frame-w-requires
 working_frame-w-requires c =
     (omega (arith, c.frame_length-n.ensures, c.requires.1), omega (arith, c.frame_length-n.ensures, (accepted_settings _ c.requires.0).small, c.scale_into.auto.scratch))
 
+-- the working frame w, of the first n samples of x, with the shift k and the scratch as they were computed
+working : (s : Settings) (x l : List ℤ) (n : ℕ) {k : ℕ} {scratch w : List ℤ} → n ≤ length x → n ≡ frame_length s → k ≡ down_shift (take n x) → scratch ≡ filled (shifted_at x k) (moved_count k n) l
+    → w ≡ take n (holder k x scratch) → w ≡ scaled (take (frame_length s) x)
+working s x l n h e f g q = q ∙ working_scaled x l n h f g ∙ ap (λ (m : ℕ). scaled (take m x)) e
+
 pub analyse_working-requires : goal.analyse_working-requires
 analyse_working-requires c =
-    let a = c.args in
-    let frame = take (frame_length a.s) a.frame.now in
-    let working : c.working_frame-w.result.now ≡ scaled frame =
-    c.working_frame-w.ensures
-    ∙ working_scaled a.frame.now _ c.frame_length-n.result (omega (arith, c.frame_length-n.ensures, c.requires.1)) c.frame_shift-shift.ensures.0 c.scale_into.ensures
-    ∙ ap (λ (n : ℕ). scaled (take n a.frame.now)) c.frame_length-n.ensures in
-    (c.requires.0, ap length working ∙ length_scaled frame ∙ length-take-le (frame_length a.s) a.frame.now c.requires.1)
+    let e = working c.args.s c.args.frame.now _ c.frame_length-n.result (omega (arith, c.frame_length-n.ensures, c.requires.1)) c.frame_length-n.ensures c.frame_shift-shift.ensures.0 c.scale_into.ensures c.working_frame-w.ensures in
+    (c.requires.0, ap length e ∙ length_scaled (take (frame_length c.args.s) c.args.frame.now) ∙ length-take-le (frame_length c.args.s) c.args.frame.now c.requires.1)
 
 pub returns : goal.returns
 unfolding verdict_of
 returns c =
     let a = c.args in
-    let frame = take (frame_length a.s) a.frame.now in
-    let working : c.working_frame-w.result.now ≡ scaled frame =
-    c.working_frame-w.ensures
-    ∙ working_scaled a.frame.now _ c.frame_length-n.result (omega (arith, c.frame_length-n.ensures, c.requires.1)) c.frame_shift-shift.ensures.0 c.scale_into.ensures
-    ∙ ap (λ (n : ℕ). scaled (take n a.frame.now)) c.frame_length-n.ensures in
+    let e = working a.s a.frame.now _ c.frame_length-n.result (omega (arith, c.frame_length-n.ensures, c.requires.1)) c.frame_length-n.ensures c.frame_shift-shift.ensures.0 c.scale_into.ensures c.working_frame-w.ensures in
     c.analyse_working.ensures
-    ∙ (λ i. staged a.s (working i) ((r_var c.ranges.prev_lag).val i) ((r_var c.ranges.prev_corr).val i))
+    ∙ (λ i. staged a.s (e i) ((r_var c.ranges.prev_lag).val i) ((r_var c.ranges.prev_corr).val i))
