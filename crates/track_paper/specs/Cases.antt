@@ -1,5 +1,5 @@
 -- Worked cases, by computation: the frames in 319, 320, 479 and 480 samples at 8 kHz with nb 4.
-use Rattle.std.specs.Prelude.{ℕ, ◌≡◌, refl, List, [], ◌∷◌, map, pos}
+use Rattle.std.specs.Prelude.{◌≡◌, refl, [], ◌∷◌, map, pos}
 use Rattle.pitch_settings.specs.declared.Settings.{Settings}
 use Rattle.pitch_settings.specs.Settings.{frame_length, hop_length}
 use Rattle.track_paper.specs.Paper.{F, frame_count}

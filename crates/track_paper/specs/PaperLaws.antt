@@ -1,6 +1,6 @@
 -- Laws of a delivery on paper: what each test says of its number, what the answer and the samples are by it, and how many samples are held.
 use Rattle.std.specs.Prelude.{ℕ, ◌+◌, ◌-◌, ◌*◌, ◌≤◌, ◌<◌, ◌≡◌, List, ◌++◌, ℤ, length}
-use Rattle.std.proofs.Common.{sym, ap, ◌∙◌, ⊎_elim, arith, length-append, length-drop}
+use Rattle.std.proofs.Common.{sym, ap, ◌∙◌, ⊎_elim, arith, length-drop}
 use borrow.Author.Tests.{eq-eqb, ne_eqb, lt-ltb, le-ltb}
 use Rattle.pitch_settings.specs.declared.Settings.{Settings}
 use Rattle.pitch_settings.specs.Settings.{settings_no, frame_length, hop_length}
@@ -8,7 +8,7 @@ use Rattle.pitch_settings.specs.SettingsLaws.{Accepted as Sized, accepted_settin
 use Rattle.track_paper.specs.declared.Limit.{Limit}
 use Rattle.track_paper.specs.declared.TrackAnswer.TheVariants.{Accepted, Refused}
 use Rattle.track_paper.specs.Paper.{F, answer_of, paper_no, joined_by, paper_answer, frames_done, samples_held}
-use Rattle.track_paper.specs.FramesLaws.{lt_or_le, eq_or_ne, fits, rest, starts, parts}
+use Rattle.track_paper.specs.FramesLaws.{lt_or_le, fits, rest, starts, parts}
 
 module _ (l : Limit) (s : Settings) (rows : ℕ) (j d : List ℤ) where
   -- what each test says of the number

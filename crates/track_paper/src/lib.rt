@@ -1,5 +1,6 @@
 // The track on paper (docs/SCOPE.md, Track): what a row leaves to the next, what limits a track, and what is said of a delivery. `specs/Paper.antt` has what they mean.
 #![tactic(auto)]
+
 ghost use Rattle.std.specs.Prelude.{◌≡◌};
 ghost use Rattle.track_paper.specs.Paper.{track_limit, answer_no};
 

@@ -1,4 +1,6 @@
 // A whole run of a pitch track: a fresh start, and then deliveries one after the other.
+#![tactic(auto)]
+
 ghost use Rattle.std.specs.Prelude.{◌≡◌, [], ◌∷◌, min, pos, length};
 ghost use Rattle.answers.specs.Answer.{answer_numbers};
 ghost use Rattle.pitch_track.specs.Step.{start_no};
