@@ -3,7 +3,7 @@ use Rattle.std.specs.Prelude.{List, [], ◌∷◌, ℕ, ℤ}
 use Rattle.pitch_settings.specs.declared.Settings.{Settings}
 use Rattle.silk_pitch_analysis.specs.declared.FrameAnswer.{FrameAnswer}
 use Rattle.silk_pitch_analysis.specs.declared.FrameAnswer.TheVariants.{Analysed, Refused}
-use Rattle.silk_pitch_analysis.specs.Frame.{FrameOutcome, frame_call, verdict_numbers}
+use Rattle.silk_pitch_analysis.specs.Frame.{frame_call, verdict_numbers}
 
 abbrev pub export_settings : ℕ → ℕ → ℕ → ℤ → ℤ → Settings
 export_settings rate nb complexity thres1 thres2 = record { rate = rate; nb = nb; complexity = complexity; thres1 = thres1; thres2 = thres2 }

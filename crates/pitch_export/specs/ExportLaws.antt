@@ -7,7 +7,7 @@ use Rattle.silk_pitch_analysis.specs.declared.Verdict.{Verdict}
 use Rattle.silk_pitch_analysis.specs.declared.FrameAnswer.{FrameAnswer}
 use Rattle.silk_pitch_analysis.specs.declared.FrameAnswer.TheVariants.{Refused}
 use Rattle.silk_pitch_analysis.specs.Frame.{FrameOutcome, frame_outcome, analysed, verdict_of, frame_no, frame_call}
-use Rattle.pitch_export.specs.Export.{Exported, export_answer, export_call}
+use Rattle.pitch_export.specs.Export.{export_answer, export_call}
 
 pub export_is : (s : Settings) (x l : List ℤ) (prev corr : ℤ) (old : List ℤ) (a : FrameAnswer) (m : List ℤ) → frame_outcome a m ≡ frame_call s x l prev corr → export_answer a m old ≡ export_call s x l prev corr old
 unfolding export_call

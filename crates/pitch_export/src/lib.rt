@@ -1,4 +1,6 @@
-// The frame call and the threshold call for programs in C and Rust, on numbers and slices.
+// The frame call and the threshold call on numbers and slices, as programs in C and Rust are offered them: `pitch_export_c` exports both.
+#![tactic(auto)]
+
 ghost use Rattle.std.specs.Prelude.{◌≡◌};
 ghost use Rattle.silk_pitch_analysis.specs.Frame.{verdict_numbers};
 ghost use Rattle.pitch_export.specs.Export.{export_settings, lent_numbers, exported, export_call};
@@ -41,9 +43,8 @@ fn put_verdict(
     }
 }
 
-// The frame call for C and Rust: 0, with the first nb lag places and the four numbers of the verdict written; or the number of the refusal (1 to 5), with nothing written.
-#[unsafe(no_mangle)]
-pub extern "C" fn pitch_frame(
+// The frame call: 0, with the first nb lag places and the four numbers of the verdict written; or the number of the refusal (1 to 5), with nothing written.
+pub fn pitch_frame(
     frame: &[i16],
     pitch_out: &mut [i32],
     rate: usize,
@@ -77,9 +78,8 @@ pub extern "C" fn pitch_frame(
     }
 }
 
-// The threshold call for C and Rust: 0, with the threshold written, which is the thres2 of `pitch_frame`; or 11, where one of the four numbers leaves its range, with nothing written.
-#[unsafe(no_mangle)]
-pub extern "C" fn pitch_threshold(
+// The threshold call: 0, with the threshold written, which is the thres2 of `pitch_frame`; or 11, where one of the four numbers leaves its range, with nothing written.
+pub fn pitch_threshold(
     order: i32,
     activity: i32,
     signal_type: i32,
