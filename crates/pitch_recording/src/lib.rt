@@ -1,4 +1,6 @@
 // A recording as a program's input: a head that says the settings, and then samples. The input is judged, and its samples are loaded.
+#![tactic(auto)]
+
 ghost use Rattle.std.specs.Prelude.{◌≡◌, List, ◌++◌, ℕ, ◌<◌, ◌≤◌, ltb, length};
 ghost use Rattle.pitch_settings.specs.Settings.{settings_no};
 ghost use Rattle.track_paper.specs.Paper.{F};

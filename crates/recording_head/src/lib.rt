@@ -9,7 +9,7 @@ use sheet_bytes::i32_at;
 use track_settings::{SecondThreshold, Speech, TrackSettings, fixed_settings};
 
 // The head with which an input begins.
-#[derive(Drop)]
+#[derive(Clone, Copy)]
 pub enum Head {
     // rate, subframe count and complexity, a byte each; the two thresholds, four signed bytes each
     Plain,
