@@ -24,7 +24,7 @@ use Rattle.pitch_sheet.specs.declared.Wrote.{Wrote}
 use Rattle.pitch_sheet.specs.declared.Wrote.TheVariants.{Written, Refused}
 use Rattle.pitch_sheet.specs.Calls.{WriteOutcome, wrote, write_call}
 use Rattle.track_sheet.specs.Accepted.{paper_rows, paper_sheet}
-use Rattle.track_sheet.specs.AcceptedLaws.{accepted_by_write}
+use Rattle.track_sheet.proofs.AcceptedLaws.{accepted_by_write}
 use Rattle.pitch_recording.specs.Recording.{program_frames, recording_numbers, samples_in, recording_no}
 use Rattle.sheet_write_bytes.specs.Program.{longest_program_sheet, sheet_written}
 use Rattle.pitch_table.specs.Row.{row_size, most_frames}

@@ -1,1 +1,2 @@
 // A track's sheet: writing takes every track that deliveries can finish (specs/Accepted.antt). No code.
+#![tactic(auto)]

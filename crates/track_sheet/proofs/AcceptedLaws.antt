@@ -1,7 +1,7 @@
 -- Writing accepts what every chain of deliveries leaves.
-use Rattle.std.specs.Prelude.{◌≡◌, refl, Bool, true, false, cond, List, [], ◌∷◌, ◌++◌, ℕ, zero, suc, ◌+◌, ◌*◌, ◌/◌, ◌≤◌, ◌<◌, ltb, eqb, ℤ, length, get_or, take, drop}
+use Rattle.std.specs.Prelude.{◌≡◌, refl, true, List, [], ◌∷◌, ◌++◌, ℕ, zero, suc, ◌*◌, ◌≤◌, ◌<◌, ℤ, length, get_or, take, drop}
 use Rattle.std.proofs.Math.Path.{sym, ap}
-use Rattle.std.proofs.Common.{◌∙◌, ⊎_elim, arith, ltb-false, length-append, take_at, SFits}
+use Rattle.std.proofs.Common.{◌∙◌, ⊎_elim, arith, take_at, SFits}
 use Rattle.std.proofs.Math.ListN.{length-drop}
 use Rattle.std.proofs.Math.Seq.{length-take-le}
 use Rattle.std.specs.Int.{w32}
@@ -15,9 +15,9 @@ use Rattle.pitch_settings.specs.Settings.{settings_no, held_no, frame_length, ho
 use Rattle.pitch_settings.specs.SettingsLaws.{analysed_held, accepted_settings}
 use Rattle.pitch_table.specs.declared.Row.{Row}
 use Rattle.pitch_table.specs.Row.{row_size, most_frames, numbers, row_at, pair_lag, voiced_row}
-use Rattle.track_paper.specs.Paper.{F, no_previous, window, previous, paper_row, paper_numbers, paper_no, joined_by, joined_samples, frames_done}
+use Rattle.track_paper.specs.Paper.{no_previous, window, previous, paper_row, paper_numbers, frames_done}
 use Rattle.track_chain.specs.Chain.{run_from_start, final_samples}
-use Rattle.track_paper.specs.FramesLaws.{lt_or_le, short, fits}
+use Rattle.track_paper.specs.FramesLaws.{lt_or_le, fits}
 use Rattle.track_paper.specs.RowsLaws.{row_read}
 use Rattle.track_chain.proofs.OnPaper.{reached, on_paper}
 use Rattle.sheet_rows.specs.Rows.{row_of, row_holds}
