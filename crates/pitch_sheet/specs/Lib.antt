@@ -6,4 +6,3 @@ pub mod Holds
 pub mod SheetReadLaws
 pub mod PageWrittenLaws
 pub mod RoundTrip
-pub mod RoundTripLaws

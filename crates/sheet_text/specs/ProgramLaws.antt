@@ -21,7 +21,7 @@ use Rattle.pitch_sheet.specs.declared.Got.TheVariants.{Read, Refused as NotRead}
 use Rattle.pitch_sheet.specs.Calls.{got, read_call, ReadOutcome}
 use Rattle.pitch_sheet.specs.CallsLaws.{sheet_page, read_malformed, read_done}
 use Rattle.pitch_sheet.specs.Holds.{no_row}
-use Rattle.pitch_sheet.specs.RoundTripLaws.{row_back}
+use Rattle.pitch_sheet.proofs.RoundTripLaws.{row_back}
 use Rattle.sheet_text.specs.Program.{sheet_head, sheet_report, sheet_text, sheet_printed, sheet_table_after, sheet_text_call}
 
 -- ---- a page that is longer than the longest sheet

@@ -29,7 +29,7 @@ use Rattle.pitch_sheet.specs.declared.Got.TheVariants.{Read}
 use Rattle.pitch_sheet.specs.Calls.{whole_rows, rows_hold, wrote, write_call, WriteOutcome, got, read_call}
 use Rattle.pitch_sheet.specs.CallsLaws.{hold_all, no_room, no_refusal, write_done}
 use Rattle.pitch_sheet.specs.Holds.{no_row, Holds}
-use Rattle.pitch_sheet.specs.RoundTripLaws.{round_trip}
+use Rattle.pitch_sheet.proofs.RoundTripLaws.{round_trip}
 use Rattle.track_sheet.specs.Accepted.{paper_rows, paper_sheet, left_no, WrittenOn, AcceptedByWrite}
 use Rattle.track_sheet.specs.RowLaws.{frame_holds, frame_correlation}
 
