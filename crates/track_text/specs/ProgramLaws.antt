@@ -13,7 +13,7 @@ use Rattle.recording_head.specs.declared.Head.{Head}
 use Rattle.recording_head.specs.Head.{head_settings}
 use Rattle.pitch_recording.specs.Recording.{program_frames, recording_numbers, samples_in, recording_no}
 use Rattle.pitch_settings.specs.declared.Settings.{Settings}
-use Rattle.pitch_settings.specs.Settings.{settings_no, frame_length, hop_length}
+use Rattle.pitch_settings.specs.Settings.{frame_length, hop_length}
 use Rattle.pitch_settings.specs.SettingsLaws.{accepted_settings}
 use Rattle.pitch_table.specs.Row.{row_size, most_frames, row_at}
 use Rattle.pitch_text.specs.Text.{refused_text}

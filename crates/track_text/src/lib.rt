@@ -1,4 +1,6 @@
 // What the programs `track` and `track_options` print: their input's bytes are taken apart, tracked, and written as text.
+#![tactic(auto)]
+
 ghost use Rattle.std.specs.Prelude.{◌≡◌, List, ◌++◌, ℕ, ◌<◌, ◌≤◌, pos, length};
 ghost use Rattle.pitch_recording.specs.Recording.{program_frames, recording_samples, recording_bytes, recording_numbers, recording_printed};
 ghost use Rattle.pitch_settings.specs.Settings.{settings_no};
