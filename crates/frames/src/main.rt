@@ -1,7 +1,9 @@
 // The program `frames`: reads records of settings, previous lag, previous correlation and a frame's samples from standard input, and prints a line for each (`frames_text` has what
 // it prints). A record that is cut or refused is the last. Where a read fails it prints nothing more; that, or a failed write, it says in a line on standard error.
+#![tactic(auto)]
+
 ghost use Rattle.std.specs.Prelude.{◌≤◌, length};
-ghost use Rattle.io.specs.Counts.{IsPrefixLen};
+ghost use Rattle.recording_io.specs.Counts.{IsPrefixLen};
 ghost use Rattle.frames_text.specs.Frames.{longest_record};
 ghost use Rattle.pitch_settings.specs.Settings.{longest_frame};
 ghost use Rattle.pitch_text.specs.Text.{row_text_bytes};
@@ -10,19 +12,20 @@ use frames_text::{LONGEST_RECORD, RECORD_HEAD, frame_text, record_length};
 use pitch_settings::LONGEST_FRAME;
 use pitch_text::ROW_TEXT_BYTES;
 use recording_io::{EVERY, Input, read_input, say_unread, write_output};
+use std::io::{Read, Write};
 
 // Reads a record: the bytes before its samples and as many more as they ask for, or what there is of them.
-fn read_record(bytes: &mut [u8]) -> Input
+fn read_record<R: Read>(input: &mut R, bytes: &mut [u8]) -> Input
     requires { longest_record ≤ length bytes.old }
     ensures { IsPrefixLen result.count bytes.new }
 {
-    let start = read_input(&mut bytes[..RECORD_HEAD]);
+    let start = read_input(input, &mut bytes[..RECORD_HEAD]);
     if start.failed {
         return start;
     }
     let head = start.count;
     let end = record_length(&bytes[..head]);
-    let rest = read_input(&mut bytes[head..end]);
+    let rest = read_input(input, &mut bytes[head..end]);
     Input {
         count: head + rest.count,
         failed: rest.failed,
@@ -30,12 +33,19 @@ fn read_record(bytes: &mut [u8]) -> Input
 }
 
 // Reads a record and prints its line or its refusal; whether more may follow. Nothing follows a read or a write that failed.
-fn print_record(bytes: &mut [u8], samples: &mut [i16], out: &mut [u8]) -> bool
+fn print_record<R: Read, W: Write, E: Write>(
+    input: &mut R,
+    output: &mut W,
+    errors: &mut E,
+    bytes: &mut [u8],
+    samples: &mut [i16],
+    out: &mut [u8],
+) -> bool
     requires { (longest_record ≤ length bytes.old) × (longest_frame ≤ length samples.old) × (row_text_bytes ≤ length out.old) }
 {
-    let got = read_record(bytes);
+    let got = read_record(input, bytes);
     if got.failed {
-        say_unread(b"frames");
+        say_unread(errors, b"frames");
         return false;
     }
     let n = got.count;
@@ -43,18 +53,28 @@ fn print_record(bytes: &mut [u8], samples: &mut [i16], out: &mut [u8]) -> bool
         return false;
     }
     let line = frame_text(&bytes[..n], samples, out);
-    let written = write_output(b"frames", &out[..line.len]);
+    let written = write_output(output, errors, b"frames", &out[..line.len]);
     written && line.number == 0
 }
 
 // Every record, up to 2 to the 40.
-fn main() {
+fn main(rt: HostRuntime) {
     let mut bytes = [0u8; LONGEST_RECORD];
     let mut samples = [0i16; LONGEST_FRAME];
     let mut out = [0u8; ROW_TEXT_BYTES];
+    let mut input = rt.stdin();
+    let mut output = rt.stdout();
+    let mut errors = rt.stderr();
     let mut records: usize = 0;
     while records < EVERY {
-        let more = print_record(&mut bytes, &mut samples, &mut out);
+        let more = print_record(
+            &mut input,
+            &mut output,
+            &mut errors,
+            &mut bytes,
+            &mut samples,
+            &mut out,
+        );
         if more {
             records += 1;
         } else {
