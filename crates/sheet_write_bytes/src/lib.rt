@@ -1,4 +1,6 @@
 // What the programs `sheet_write` and `sheet_write_options` write: their input's bytes are taken apart, tracked, and written as a sheet.
+#![tactic(auto)]
+
 ghost use Rattle.std.specs.Prelude.{◌≡◌, List, [], ◌++◌, ℕ, ◌/◌, ◌<◌, ◌≤◌, pos, length};
 ghost use Rattle.lists.specs.Fill.{overwritten};
 ghost use Rattle.track_settings.specs.TrackSettings.{stored_settings, track_settings_no};
