@@ -1,0 +1,34 @@
+-- `sheet_read::print_sheet` meets its contract: what is written first is the input's text, whatever follows the bytes that were looked at.
+use Rattle.std.proofs.Common.{◌≡◌, ltb, ℕ, zero, suc, ◌+◌, ◌<◌, ◌++◌, List, [], length, take, ℤ, Option, Some, sym, ap, ◌∙◌, subst, length-append, arith}
+use Rattle.std.specs.Io.KnownBytes.{Appends, IsAtEnd}
+use borrow.Author.Tests.{lt-ltb}
+use Rattle.lists.specs.PushLaws.{take_overwritten}
+use Rattle.recording_io.specs.KnownLaws.{known_bytes}
+use Rattle.sheet_text.specs.Program.{SheetPrinted, sheet_printed, sheet_text, sheet_text_call}
+use Rattle.sheet_read.proofs.print_sheet.Goals as goal
+
+-- the first bytes that `sheet_text` leaves are the input's text
+text_of : (p out : List ℕ) (table : List ℤ) (r : ℕ) (after : List ℕ) (y : List ℤ) → sheet_printed r after y ≡ sheet_text_call p out table → take r after ≡ sheet_text p
+unfolding sheet_text_call
+text_of p out table r after y e =
+    let n : length (sheet_text p) ≡ r = sym (ap (λ (q : SheetPrinted). q.len) e) in
+    ap (take r) (ap (λ (q : SheetPrinted). q.out) e) ∙ take_overwritten (sheet_text p) out r n
+
+-- whether bytes follow the buffer is told by one read past it
+follow : (rest ys : List ℕ) (new : Option (List ℕ)) (more : ℕ) → length rest ≡ more → new ≡ Some ys → (more < 1 → IsAtEnd new) → ltb 0 (length (rest ++ ys)) ≡ ltb 0 more
+follow rest ys new zero e p end =
+    let none : ys ≡ [] = subst IsAtEnd p (end (omega arith)) in
+    let long : length (rest ++ ys) ≡ 0 = length-append rest ys ∙ omega (arith, ap (length {A = ℕ}) none) in
+    ap (ltb 0) long
+follow rest ys new (suc n) e p end =
+    let long : length (rest ++ ys) ≡ suc (n + length ys) = length-append rest ys ∙ omega arith in
+    ap (ltb 0) long ∙ lt-ltb 0 (suc (n + length ys)) (omega arith) ∙ sym (lt-ltb 0 (suc n) (omega arith))
+
+pub returns : goal.returns
+returns g c = λ w.
+    let bytes = c.read_whole-got.ensures.bytes in
+    let rest = bytes.0 in
+    known_bytes _ _ (take c.read_whole-got.result.count c.read_whole-got.new.buf) rest _ bytes.2
+    (λ ys at_ys.
+    let more = follow rest ys _ _ bytes.1 at_ys (c.read_whole-got.ensures.end c.if-got.false) in
+    subst (Appends _ _) (text_of _ _ _ _ _ _ (c.sheet_text-r.ensures.by_index (rest ++ ys) more)) (c.write_output.ensures w))
