@@ -1,7 +1,15 @@
 // The program `track_options`: prints the rows of the track of a recording on standard input whose head names options, or the refusal (docs/FORMAT.md).
+#![tactic(auto)]
+
 use recording_head::Head;
 use track_printer::print_track;
 
-fn main() {
-    print_track(b"track_options", Head::Options);
+fn main(rt: HostRuntime) {
+    print_track(
+        &mut rt.stdin(),
+        &mut rt.stdout(),
+        &mut rt.stderr(),
+        b"track_options",
+        Head::Options,
+    );
 }
