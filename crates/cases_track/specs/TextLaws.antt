@@ -1,9 +1,8 @@
 -- The first bytes of what `track_text` leaves are the input's text, and so a comparison with them tells whether the text agrees.
-use Rattle.std.specs.Prelude.{Bool, true, false, List, ◌++◌, ◌≡◌, ℕ, ◌+◌, ◌-◌, ◌≤◌, min, ℤ, length, take, drop, replicate}
+use Rattle.std.specs.Prelude.{Bool, false, List, ◌++◌, ◌≡◌, ℕ, ◌+◌, ◌-◌, ◌≤◌, min, ℤ, length, take, drop, replicate}
 use Rattle.std.proofs.lemmas.Bool.{false≢true}
 use Rattle.std.proofs.Common.{sym, ap, ◌∙◌, arith}
 use Rattle.std.proofs.lemmas.List.{length-replicate}
-use Rattle.lists.specs.Fill.{overwritten}
 use Rattle.lists.specs.PushLaws.{take_overwritten}
 use Rattle.cases_io.specs.Little.{u32_at}
 use Rattle.pitch_recording.specs.Recording.{recording_bytes, RecordingPrinted, recording_printed, printed_for}

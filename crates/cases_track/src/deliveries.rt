@@ -143,10 +143,9 @@ fn deliver_all(body: &[u8], from: usize, samples: &[i16], table: &mut [i32]) -> 
         let end = at + least(u32_at(body, told), samples.len() - at);
         let part = &samples[at..end];
         let d = track.deliver(part, table);
-        let next = d.track;
-        track = next;
+        track = d.track;
         let a = d.answer;
-        if !delivery_agrees(body, told, a, next.frames, next.count) {
+        if !delivery_agrees(body, told, a, track.frames, track.count) {
             return Chain { same: false, track };
         }
         at = end;

@@ -6,7 +6,6 @@ ghost use Rattle.cases_track.specs.Text.{Tells, TextAgrees};
 
 use crate::least;
 use cases_io::u32_at;
-use check::same;
 use pitch_recording::{RECORDING_BYTES, sample_room, table_room};
 use recording_head::Head;
 use track_text::{LONGEST_TEXT, text_room, track_text};
@@ -20,7 +19,7 @@ fn is_told(head: Head, input: &[u8], more: usize, told: &[u8]) -> bool
     let mut table = table_room();
     let mut out = text_room();
     let r = track_text(head, input, more, &mut samples, &mut table, &mut out);
-    same(&out[..r], told)
+    &out[..r] == told
 }
 
 // Whether the text is the one that the body tells. The bytes after the body are 0, and so the input's zeros are among them; those past the program's room are only counted.
