@@ -1,7 +1,15 @@
 // The program `sheet_write`: writes the sheet of the track of a recording on standard input, or the refusal (docs/FORMAT.md).
+#![tactic(auto)]
+
 use recording_head::Head;
 use track_sheet_writer::write_track_sheet;
 
-fn main() {
-    write_track_sheet(b"sheet_write", Head::Plain);
+fn main(rt: HostRuntime) {
+    write_track_sheet(
+        &mut rt.stdin(),
+        &mut rt.stdout(),
+        &mut rt.stderr(),
+        b"sheet_write",
+        Head::Plain,
+    );
 }
