@@ -1,0 +1,3 @@
+-- What the program prints. Definitions: `Output`; laws: `OutputLaws`.
+pub mod Output
+pub mod OutputLaws
