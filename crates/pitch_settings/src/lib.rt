@@ -1,11 +1,19 @@
 // The settings of a frame, a track or a sheet: which are analysed, which a sheet can hold (refusals 1 to 3), and the sizes that they give.
 #![tactic(auto)]
 
-ghost use Rattle.std.specs.Prelude.{◌≡◌};
-ghost use Rattle.pitch_settings.specs.Settings.{rate_known, subframes_known, settings_refusal, settings_no, held_no, frame_length, hop_length};
+ghost use Rattle.std.specs.Prelude.{◌≡◌, IfOk};
+ghost use Rattle.refusals.specs.Refusals.{number_told};
+ghost use Rattle.pitch_settings.specs.Settings.{rate_known, subframes_known, settings_refusal, settings_no, held_no};
+
+mod analysed;
+mod held;
+
+pub use analysed::Analysed;
+pub use held::Held;
+use refusals::Refusal;
 
 // The five settings with which a frame is analysed.
-#[derive(Clone, Copy)]
+#[derive(Clone, Copy, PartialEq, Eq)]
 pub struct Settings {
     // samples per millisecond (kHz): 8, 12 or 16
     pub rate: usize,
@@ -19,78 +27,61 @@ pub struct Settings {
     pub thres2: i32,
 }
 
-// Whether frames at this rate (kHz) are known.
-pub fn rate_known(rate: usize) -> bool
-    ensures { result ≡ rate_known rate }
-{
-    if rate == 8 {
-        return true;
-    }
-    if rate == 12 {
-        return true;
-    }
-    rate == 16
-}
-
-// Whether frames of this many subframes are known.
-pub fn subframes_known(nb: usize) -> bool
-    ensures { result ≡ subframes_known nb }
-{
-    if nb == 2 {
-        return true;
-    }
-    nb == 4
-}
-
-// The first refusal that applies, given whether the complexity is known; or 0.
-fn settings_refusal(rate: usize, nb: usize, known: bool) -> usize
-    ensures { result ≡ settings_refusal rate nb known }
-{
-    let fits = rate_known(rate);
-    if fits {
-        let few = subframes_known(nb);
-        if few {
-            if known {
-                return 0;
-            }
-            return 3;
-        }
-        return 2;
-    }
-    1
-}
-
-// The number of the refusal of settings that are not analysed, or 0.
-pub fn settings_no(s: Settings) -> usize
-    ensures { result ≡ settings_no s }
-{
-    let analysed = s.complexity <= 2;
-    settings_refusal(s.rate, s.nb, analysed)
-}
-
-// The number of the refusal of settings that a sheet can't hold, or 0.
-pub fn held_no(s: Settings) -> usize
-    ensures { result ≡ held_no s }
-{
-    let held = s.complexity <= 2;
-    settings_refusal(s.rate, s.nb, held)
-}
-
 // The samples of the longest frame: 16 kHz, four subframes.
 pub const LONGEST_FRAME: usize = 640;
 
-// N, the samples of a frame.
-pub fn frame_length(s: Settings) -> usize
-    requires { settings_no s ≡ 0 }
-    ensures { result ≡ frame_length s }
+// Whether frames at this rate (kHz) are known.
+#[tactic(auto, unfolding(crate::specs::Settings::rate_known))]
+pub fn rate_known(rate: usize) -> bool
+    ensures { result ≡ rate_known rate }
 {
-    (20 + 5 * s.nb) * s.rate
+    matches!(rate, 8 | 12 | 16)
 }
 
-// The samples by which a track advances from frame to frame.
-pub fn hop_length(s: Settings) -> usize
-    requires { settings_no s ≡ 0 }
-    ensures { result ≡ hop_length s }
+// Whether frames of this many subframes are known.
+#[tactic(auto, unfolding(crate::specs::Settings::subframes_known))]
+pub fn subframes_known(nb: usize) -> bool
+    ensures { result ≡ subframes_known nb }
 {
-    5 * s.nb * s.rate
+    matches!(nb, 2 | 4)
+}
+
+// The first refusal that applies, given whether the complexity is known.
+fn check(rate: usize, nb: usize, known: bool) -> Result<(), Refusal>
+    ensures { number_told result ≡ settings_refusal rate nb known }
+{
+    if !rate_known(rate) {
+        return Err(Refusal::Rate);
+    }
+    if !subframes_known(nb) {
+        return Err(Refusal::Subframes);
+    }
+    if !known {
+        return Err(Refusal::Complexity);
+    }
+    Ok(())
+}
+
+impl Settings {
+    // The settings as ones with which frames are analysed, or the refusal.
+    #[tactic(auto, unfolding(crate::specs::Settings::settings_no))]
+    pub fn analysed(self) -> Result<Analysed, Refusal>
+        ensures number { number_told result ≡ settings_no self }
+        ensures settings { IfOk result (λ s. s.settings ≡ self) }
+    {
+        let analysed = self.complexity <= 2;
+        check(self.rate, self.nb, analysed)?;
+        Ok(Analysed { settings: self })
+    }
+
+    // The settings as ones that a sheet can hold, or the refusal.
+    #[tactic(auto, unfolding(crate::specs::Settings::held_no))]
+    pub fn held(self) -> Result<Held, Refusal>
+        ensures number { number_told result ≡ held_no self }
+        ensures settings { IfOk result (λ s. s.settings ≡ self) }
+    {
+        let held = self.complexity <= 2;
+        check(self.rate, self.nb, held)?;
+        Ok(Held { settings: self })
+    }
 }
