@@ -1,13 +1,11 @@
 -- The second threshold from the speech itself, as the encoder finds it before it analyses a frame (docs/SCOPE.md, Threshold): from the order of the whitening filter, the speech activity
 -- (Q8), the type of the previous signal (0 none, 1 unvoiced, 2 voiced) and the tilt of the spectrum (Q15). Definitions only.
-use Rattle.std.specs.Prelude.{Bool, ◌&&◌, cond, List, [], ◌∷◌, ℕ, eqb, ℤ, pos, ◌+ℤ◌, ◌*ℤ◌, ◌≤ℤ◌}
+use Rattle.std.specs.Prelude.{Result, Ok, Err, Bool, ◌&&◌, cond, List, [], ◌∷◌, ℕ, eqb, ℤ, pos, ◌+ℤ◌, ◌*ℤ◌, ◌≤ℤ◌}
 use Rattle.std.specs.Int.Signed.{shr_z, le_z}
 use Rattle.std.specs.Int.{w16}
 use Rattle.zint.specs.Clamp.{sat}
 use Rattle.zint.specs.Minus.{minus}
 use Rattle.silk_macros.specs.Macros.{smlabb, smlawb, rshift}
-use Rattle.speech_threshold.specs.declared.ThresholdAnswer.{ThresholdAnswer}
-use Rattle.speech_threshold.specs.declared.ThresholdAnswer.TheVariants.{Threshold, Refused}
 
 -- the steps of `silk_find_pitch_lags_fix`, Q13, each of the four numbers lowering 4915 in turn, and held to 16 bits at the end
 unfoldable pub less_order : ℤ → ℤ
@@ -54,10 +52,10 @@ unfoldable pub threshold_no : ℤ → ℤ → ℤ → ℤ → ℕ
 threshold_no order activity type tilt = cond (in_range order activity type tilt) 0 11
 
 -- what the call says
-unfoldable pub threshold_call : ℤ → ℤ → ℤ → ℤ → ThresholdAnswer
-threshold_call order activity type tilt = cond (eqb (threshold_no order activity type tilt) 0) (Threshold (threshold_value order activity type tilt)) (Refused (threshold_no order activity type tilt))
+unfoldable pub threshold_call : ℤ → ℤ → ℤ → ℤ → Result ℤ ℕ
+threshold_call order activity type tilt = cond (eqb (threshold_no order activity type tilt) 0) (Ok (threshold_value order activity type tilt)) (Err (threshold_no order activity type tilt))
 
 -- an answer as numbers: a threshold is 0, with its value; a refusal is its number
-abbrev pub threshold_answer_numbers : ThresholdAnswer → List ℤ
-threshold_answer_numbers (Threshold value) = pos 0 ∷ value ∷ []
-threshold_answer_numbers (Refused n) = pos n ∷ []
+abbrev pub threshold_answer_numbers : Result ℤ ℕ → List ℤ
+threshold_answer_numbers (Ok value) = pos 0 ∷ value ∷ []
+threshold_answer_numbers (Err n) = pos n ∷ []

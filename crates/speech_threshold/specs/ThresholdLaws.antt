@@ -1,7 +1,7 @@
 -- Laws of the threshold from the speech: what the call says; what the ranges say; the value as a plain sum, its bounds, and that it is a number of 16 bits.
 use Rattle.std.proofs.Math.Path.{◌≡◌, refl, sym, ap, subst}
 use Rattle.std.proofs.Common.{ap₂, ◌∙◌, SFits, eq-eqb, ne_eqb, eqb-true}
-use Rattle.std.specs.Prelude.{Bool, ◌&&◌, ℕ, ℤ, ◌+ℤ◌, ◌*ℤ◌, ◌≤ℤ◌}
+use Rattle.std.specs.Prelude.{Ok, Err, Bool, ◌&&◌, ℕ, ℤ, ◌+ℤ◌, ◌*ℤ◌, ◌≤ℤ◌}
 use Rattle.std.proofs.Math.Bool.{true, false, cond}
 use mathlib.Core.List.{[], ◌∷◌}
 use native.Mathlib.Omega.{arith}
@@ -21,17 +21,16 @@ use Rattle.zint.specs.Wrap.{wrap}
 use Rattle.zint.specs.WrapLaws.{wrap_id, shr_ud, mod_z_lt}
 use Rattle.silk_macros.specs.Macros.{smulbb, smulwb, smlabb, smlawb, rshift}
 use Rattle.speech_threshold.specs.Threshold.{less_order, less_activity, less_type, less_tilt, threshold_value, plain_threshold, within, in_range, InRange, threshold_no, threshold_call, threshold_answer_numbers}
-use Rattle.speech_threshold.specs.declared.ThresholdAnswer.TheVariants.{Threshold, Refused}
 
 -- ---- what the call says, for every four numbers
 module _ (o a s t : ℤ) where
-  pub says_threshold : threshold_no o a s t ≡ 0 → threshold_call o a s t ≡ Threshold (threshold_value o a s t)
+  pub says_threshold : threshold_no o a s t ≡ 0 → threshold_call o a s t ≡ Ok (threshold_value o a s t)
   unfolding threshold_call
-  says_threshold e = ap (λ (b : Bool). cond b (Threshold (threshold_value o a s t)) (Refused (threshold_no o a s t))) (eq-eqb (threshold_no o a s t) 0 e)
+  says_threshold e = ap (λ (b : Bool). cond b (Ok (threshold_value o a s t)) (Err (threshold_no o a s t))) (eq-eqb (threshold_no o a s t) 0 e)
 
-  pub says_refused : (threshold_no o a s t ≡ 0 → ⊥) → threshold_call o a s t ≡ Refused (threshold_no o a s t)
+  pub says_refused : (threshold_no o a s t ≡ 0 → ⊥) → threshold_call o a s t ≡ Err (threshold_no o a s t)
   unfolding threshold_call
-  says_refused g = ap (λ (b : Bool). cond b (Threshold (threshold_value o a s t)) (Refused (threshold_no o a s t))) (ne_eqb (threshold_no o a s t) 0 g)
+  says_refused g = ap (λ (b : Bool). cond b (Ok (threshold_value o a s t)) (Err (threshold_no o a s t))) (ne_eqb (threshold_no o a s t) 0 g)
 
   -- in numbers
   pub answered_in_numbers : threshold_answer_numbers (threshold_call o a s t) ≡ answer_numbers (threshold_no o a s t) (threshold_value o a s t ∷ [])
@@ -39,7 +38,7 @@ module _ (o a s t : ℤ) where
   answered_in_numbers = by (eqb (threshold_no o a s t) 0) refl
     where
       by : (b : Bool) → eqb (threshold_no o a s t) 0 ≡ b
-          → threshold_answer_numbers (cond b (Threshold (threshold_value o a s t)) (Refused (threshold_no o a s t))) ≡ pos (threshold_no o a s t) ∷ cond b (threshold_value o a s t ∷ []) []
+          → threshold_answer_numbers (cond b (Ok (threshold_value o a s t)) (Err (threshold_no o a s t))) ≡ pos (threshold_no o a s t) ∷ cond b (threshold_value o a s t ∷ []) []
       by true e = ap (λ (n : ℕ). pos n ∷ threshold_value o a s t ∷ []) (sym (eqb-true (threshold_no o a s t) 0 e))
       by false e = refl
 
