@@ -19,6 +19,10 @@ number_positive Malformed = omega arith
 number_positive HalfInput = omega arith
 number_positive ThresholdRange = omega arith
 
+-- what is refused has a number that is not 0
+pub refused_positive : (r : Refusal) {n : ℕ} → refusal_number r ≡ n → n ≡ 0 → ⊥
+refused_positive r e z = omega (arith, number_positive r, e, z)
+
 -- the refusal of a number
 abbrev numbered : ℕ → Refusal
 numbered n =

@@ -1,6 +1,5 @@
 -- Every offset of a codebook lies within -9 to 9, and so the sum that is held fits. A wrong entry of a table makes these false.
 use Rattle.std.specs.Prelude.{◌≡◌, refl, Bool, true, false, cond, ℕ, ◌*◌, ℤ, pos, negsuc, ◌+ℤ◌, ◌≤ℤ◌, eqb}
-use Rattle.std.proofs.Common.{arith}
 use Rattle.std.specs.Int.{w32}
 use mir.Val.{SFits}
 use Rattle.zint.specs.DiffLaws.{v, n as num, ◌⊕◌, le_of, sfits_by, zarith}

@@ -1,5 +1,5 @@
 -- What a carried pair says, the test from such facts, and the answer by its tests.
-use Rattle.std.specs.Prelude.{◌≡◌, [], ◌∷◌, Bool, ℕ, ◌≤◌, ◌<◌, eqb, ltb, ℤ, pos, nat_abs, ◌<ℤ◌}
+use Rattle.std.specs.Prelude.{Option, Some, None, ◌≡◌, [], ◌∷◌, Bool, ℕ, ◌≤◌, ◌<◌, eqb, ltb, ℤ, pos, nat_abs, ◌<ℤ◌}
 use Rattle.std.proofs.Math.Path.{refl, ap₂}
 use Rattle.std.proofs.Common.{subst, arith}
 use Rattle.std.proofs.Math.Bool.{true, false, ◌&&◌, cond}
@@ -16,8 +16,6 @@ use Rattle.pitch_settings.specs.declared.Settings.{Settings}
 use Rattle.pitch_settings.specs.Settings.{settings_refusal, complexity_held, held_no}
 use Rattle.pitch_settings.specs.SettingsLaws.{held_settings}
 use Rattle.silk_tables.specs.ContourLaws.{greatest_le, contours_le}
-use Rattle.silk_tables.specs.declared.rebuild.Rebuilt.{Rebuilt}
-use Rattle.silk_tables.specs.declared.rebuild.Rebuilt.TheVariants.{Lag, NotCarried}
 
 -- ---- a carried pair
 
@@ -75,18 +73,18 @@ carried_pair {fs} {nb} {cx} {i} {j} h l = record {
 -- ---- the answer by its tests
 
 module _ (fs nb cx : ℕ) (index contour : ℤ) (k : ℕ) where
-  abbrev lag : Rebuilt
-  lag = Lag (rebuilt fs nb index (nat_abs contour) k)
+  abbrev lag : Option ℤ
+  lag = Some (rebuilt fs nb index (nat_abs contour) k)
 
-  pub answer_by : {a b c : Bool} → eqb (settings_refusal fs nb (complexity_held cx)) 0 ≡ a → ltb k nb ≡ b → carried fs nb cx index contour ≡ c → rebuild_call fs nb cx index contour k ≡ cond (a && b && c) lag NotCarried
+  pub answer_by : {a b c : Bool} → eqb (settings_refusal fs nb (complexity_held cx)) 0 ≡ a → ltb k nb ≡ b → carried fs nb cx index contour ≡ c → rebuild_call fs nb cx index contour k ≡ cond (a && b && c) lag None
   unfolding rebuild_call
-  answer_by p q r = λ i. cond (p i && q i && r i) lag NotCarried
+  answer_by p q r = λ i. cond (p i && q i && r i) lag None
 
   -- the answer in numbers
   pub rebuilt_in_numbers : rebuilt_numbers (rebuild_call fs nb cx index contour k) ≡ answer_numbers (rebuilt_number fs nb cx index contour k) (rebuilt fs nb index (nat_abs contour) k ∷ [])
   unfolding rebuild_call rebuilt_number
   rebuilt_in_numbers = by (rebuildable fs nb cx index contour k)
     where
-      by : (t : Bool) → rebuilt_numbers (cond t lag NotCarried) ≡ answer_numbers (cond t 0 9) (rebuilt fs nb index (nat_abs contour) k ∷ [])
+      by : (t : Bool) → rebuilt_numbers (cond t lag None) ≡ answer_numbers (cond t 0 9) (rebuilt fs nb index (nat_abs contour) k ∷ [])
       by true = refl
       by false = refl

@@ -1,11 +1,9 @@
 -- Laws of the contours in use, the greatest index and the codebooks: which each rate chooses, and their bounds.
-use Rattle.std.specs.Prelude.{◌≡◌, refl, Bool, true, false, cond, [], ◌∷◌, ◌⊎◌, ℕ, zero, suc, ◌+◌, ◌-◌, ◌*◌, ◌≤◌, eqb, pos, negsuc, get_or, ◌≤ℤ◌}
+use Rattle.std.specs.Prelude.{◌≡◌, Bool, true, false, cond, [], ◌∷◌, ◌⊎◌, ℕ, zero, suc, ◌+◌, ◌-◌, ◌*◌, ◌≤◌, eqb, get_or}
 use Rattle.std.proofs.Common.{sym, ap, ◌∙◌, ⊎_elim, arith, lit≤, eq-eqb, ne_eqb}
-use Rattle.zint.specs.DiffLaws.{le_of, zarith}
-use Rattle.silk_tables.specs.Tables.{cb_lags_stage3, cb_lags_stage3_10_ms, in_use, offset, offset2, entries2, contours2, contours, least_lag, greatest_lag, known_rate, greatest_index}
+use Rattle.silk_tables.specs.Tables.{in_use, offset, offset2, entries2, contours2, contours, least_lag, greatest_lag, known_rate, greatest_index}
 use Rattle.silk_tables.specs.Rebuild.{book_entries, book}
-use Rattle.silk_tables.specs.EntryLaws.{table_within, all_of, within, entry_ge, entry_le}
-use Rattle.silk_tables.specs.Stage2Laws.{offset2_ge, offset2_le, contours2_le}
+use Rattle.silk_tables.specs.Stage2Laws.{contours2_le}
 
 -- ---- the counts and the offset that the rate chooses
 

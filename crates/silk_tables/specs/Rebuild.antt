@@ -1,13 +1,11 @@
 -- RFC 6716, section 4.2.7.6.1: the lags that a lag index and a contour index stand for. fs is the rate in kHz, so a millisecond is fs samples; nb is the subframe
 -- count and k a subframe. Definitions only; the laws are in `RebuildLaws`.
-use Rattle.std.specs.Prelude.{◌≡◌, Bool, ◌&&◌, cond, List, [], ◌∷◌, ◌⊎◌, ℕ, ◌*◌, ◌≤◌, ◌<◌, eqb, ltb, ℤ, pos, nat_abs, ◌+ℤ◌, ◌≤ℤ◌, ◌<ℤ◌}
+use Rattle.std.specs.Prelude.{Option, Some, None, ◌≡◌, Bool, ◌&&◌, cond, List, [], ◌∷◌, ◌⊎◌, ℕ, ◌*◌, ◌≤◌, ◌<◌, eqb, ltb, ℤ, pos, nat_abs, ◌+ℤ◌, ◌≤ℤ◌, ◌<ℤ◌}
 use Rattle.std.specs.Int.Signed.{le_z, lt_z}
 use Rattle.zint.specs.Clamp.{clamp}
 use Rattle.lists.specs.Fill.{tabulate}
 use Rattle.pitch_settings.specs.Settings.{settings_refusal, complexity_held}
 use Rattle.silk_tables.specs.Tables.{least_lag, offset, offset2, contours, greatest_index}
-use Rattle.silk_tables.specs.declared.rebuild.Rebuilt.{Rebuilt}
-use Rattle.silk_tables.specs.declared.rebuild.Rebuilt.TheVariants.{Lag, NotCarried}
 
 -- lag_min is 2 ms, the least lag tried, and lag_max 18 ms, whatever the greatest lag tried
 abbrev pub lag_min : ℕ → ℕ
@@ -64,14 +62,14 @@ abbrev pub rebuildable : ℕ → ℕ → ℕ → ℤ → ℤ → ℕ → Bool
 rebuildable fs nb cx index contour k = eqb (settings_refusal fs nb (complexity_held cx)) 0 && ltb k nb && carried fs nb cx index contour
 
 -- the answer for any numbers: a lag where there is one to rebuild
-unfoldable pub rebuild_call : ℕ → ℕ → ℕ → ℤ → ℤ → ℕ → Rebuilt
+unfoldable pub rebuild_call : ℕ → ℕ → ℕ → ℤ → ℤ → ℕ → Option ℤ
 rebuild_call fs nb cx index contour k =
-    cond (rebuildable fs nb cx index contour k) (Lag (rebuilt fs nb index (nat_abs contour) k)) NotCarried
+    cond (rebuildable fs nb cx index contour k) (Some (rebuilt fs nb index (nat_abs contour) k)) None
 
 -- the answer in numbers: 0 and the lag, or 9 (malformed) for numbers that are no pair of a frame; and which of the two comes
-abbrev pub rebuilt_numbers : Rebuilt → List ℤ
-rebuilt_numbers (Lag l) = pos 0 ∷ l ∷ []
-rebuilt_numbers NotCarried = pos 9 ∷ []
+abbrev pub rebuilt_numbers : Option ℤ → List ℤ
+rebuilt_numbers (Some l) = pos 0 ∷ l ∷ []
+rebuilt_numbers None = pos 9 ∷ []
 
 unfoldable pub rebuilt_number : ℕ → ℕ → ℕ → ℤ → ℤ → ℕ → ℕ
 rebuilt_number fs nb cx index contour k = cond (rebuildable fs nb cx index contour k) 0 9

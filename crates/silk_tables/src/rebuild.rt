@@ -5,14 +5,7 @@ ghost use Rattle.answers.specs.Answer.{answer_numbers};
 ghost use Rattle.silk_tables.specs.Rebuild.{lag_max, book_entries, book, rebuilt, Coded, carried, rebuild_call, rebuilt_numbers, rebuilt_number};
 
 use crate::{PE_MAX_LAG_MS, SILK_PE_MAX_COMPLEX};
-use pitch_settings::{Settings, held_no};
-
-// The lag of a subframe, or the answer to a pair that is not carried.
-#[derive(Drop)]
-pub enum Rebuilt {
-    Lag(i32),
-    NotCarried,
-}
+use pitch_settings::Settings;
 
 // The greatest lag that a pair can stand for.
 fn lag_max(fs_khz: usize) -> usize
@@ -68,7 +61,7 @@ pub fn pair_carried(
     lag_index >= 0 && lag_index <= greatest && contour_index >= 0 && contour_index < contours
 }
 
-// The lag of subframe k for any numbers: a lag where a sheet can hold the settings, the frame has a subframe k and the pair is carried.
+// The lag of subframe k for any numbers: a lag where a sheet can hold the settings, the frame has a subframe k and the pair is carried; else none.
 pub fn rebuilt_lag(
     fs_khz: usize,
     nb_subfr: usize,
@@ -76,26 +69,25 @@ pub fn rebuilt_lag(
     lag_index: i32,
     contour_index: i32,
     k: usize,
-) -> Rebuilt
-    ensures value { result ≡ rebuild_call fs_khz nb_subfr complexity lag_index contour_index k }
-    ensures result_value { rebuilt_numbers result ≡ answer_numbers (rebuilt_number fs_khz nb_subfr complexity lag_index contour_index k) (rebuilt fs_khz nb_subfr lag_index (nat_abs contour_index) k ∷ []) }
+) -> Option<i32>
+    ensures answer { result ≡ rebuild_call fs_khz nb_subfr complexity lag_index contour_index k }
+    ensures numbers { rebuilt_numbers result ≡ answer_numbers (rebuilt_number fs_khz nb_subfr complexity lag_index contour_index k) (rebuilt fs_khz nb_subfr lag_index (nat_abs contour_index) k ∷ []) }
 {
     let settings = Settings {
         rate: fs_khz,
         nb: nb_subfr,
-        complexity: complexity,
+        complexity,
         thres1: 0,
         thres2: 0,
     };
-    let no = held_no(settings);
-    if no != 0 {
-        return Rebuilt::NotCarried;
-    }
+    let Ok(_) = settings.held() else {
+        return None;
+    };
     if k >= nb_subfr {
-        return Rebuilt::NotCarried;
+        return None;
     }
     if !pair_carried(fs_khz, nb_subfr, complexity, lag_index, contour_index) {
-        return Rebuilt::NotCarried;
+        return None;
     }
-    Rebuilt::Lag(lag_of(fs_khz, nb_subfr, lag_index, contour_index as usize, k))
+    Some(lag_of(fs_khz, nb_subfr, lag_index, contour_index as usize, k))
 }
