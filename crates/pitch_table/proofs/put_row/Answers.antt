@@ -1,30 +1,20 @@
--- `pitch_table::put_row` meets its contract: eight stores are one `sets`.
-use mathlib.Core.Path.{◌≡◌}
-use Prim.Native.Nat.{◌^◌, ◌<◌}
-use native.Mathlib.Numerals.{towards_suc}
-use lib.IntN.{ℤ}
-use lib.Signed.{mag}
-use mir.Syntax.{w32}
-use mir.Val.{hbits, to_z, of_z}
-use borrow.Author.Rules.{rules}
-use Rattle.zint.specs.ReadLaws.{r_elem}
+-- `pitch_table::put_row` meets its contract: a part of the table is overwritten.
+use Rattle.std.proofs.Common.{◌≡◌, sym, arith, ◌∙◌, ap, append_assoc}
+use Rattle.std.specs.Prelude.{ℕ, ℤ, List, ◌+◌, ◌-◌, ◌*◌, ◌++◌, ◌≤◌, length, take, drop}
+use Rattle.std.proofs.lemmas.List.{drop-drop}
+use Rattle.std.proofs.lemmas.List.Edits.{sets, sets-eq}
+use Rattle.pitch_table.specs.Row.{row_size, numbers}
 use Rattle.pitch_table.proofs.put_row.Goals as goal
 
--- a number of the row, as it is written
-written : (z : ℤ) → mag z < 2 ^ hbits w32 → to_z w32 (of_z w32 z) ≡ z
-written z g = (r_elem w32 z g).val
+-- what a part of a slice leaves when ys are copied over it
+part_sets : (t ys : List ℤ) (a k : ℕ) → k ≡ length ys → a + length ys ≤ length t → take a t ++ (ys ++ drop k (drop a t)) ≡ sets t a ys
+part_sets t ys a k e h =
+    let n : a + k ≡ a + length ys = omega arith in
+    ap (λ (xs : List ℤ). take a t ++ (ys ++ xs)) (drop-drop k a t ∙ ap (λ (n : ℕ). drop n t) n) ∙ sym (append_assoc (take a t) ys (drop (a + length ys) t)) ∙ sym (sets-eq ys t a h)
 
 pub returns : goal.returns
 returns c =
-    let r = c.args.r in
-    simp (
-      towards_suc,
-      written r.verdict (search rules),
-      written r.index (search rules),
-      written r.contour (search rules),
-      written r.correlation (search rules),
-      written r.lag0 (search rules),
-      written r.lag1 (search rules),
-      written r.lag2 (search rules),
-      written r.lag3 (search rules),
-    )
+    let t = c.args.table.now in
+    let at = c.args.i * row_size in
+    ap (λ (ys : List ℤ). take at t ++ (ys ++ drop (at + row_size - at) (drop at t))) (c.copy_from_slice.ensures.after ∙ c.numbers.ensures)
+    ∙ part_sets t (numbers c.args.r) at (at + row_size - at) (omega arith) (omega (arith, c.requires))
