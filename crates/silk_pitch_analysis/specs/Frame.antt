@@ -1,6 +1,6 @@
 -- A frame: what `silk_pitch_analysis_core` answers for the settings s, the frame's samples x and the previous lag and correlation (docs/SCOPE.md, Stages and Track;
 -- pitch_analysis.rs). Definitions only; what they say in words is in `Meaning`.
-use Rattle.std.specs.Prelude.{cond, List, [], ◌∷◌, ℕ, ◌*◌, ◌/◌, eqb, ltb, ℤ, pos, ◌-ℤ◌, length, take}
+use Rattle.std.specs.Prelude.{Result, Ok, Err, cond, List, [], ◌∷◌, ℕ, ◌*◌, ◌/◌, eqb, ltb, ℤ, pos, ◌-ℤ◌, length, take}
 use Rattle.answers.specs.Answer.{answer_numbers}
 use Rattle.lists.specs.Fill.{filled}
 use Rattle.pitch_settings.specs.declared.Settings.{Settings}
@@ -21,10 +21,6 @@ use Rattle.stage3.specs.declared.Found.{Found}
 use Rattle.stage3.specs.declared.Found.TheVariants.{Pair, ZeroDivisor as Zero3}
 use Rattle.silk_pitch_analysis.specs.declared.Verdict.{Verdict}
 use Rattle.silk_pitch_analysis.specs.declared.Verdict.TheVariants.{Voiced, Unvoiced, ZeroDivisor}
-use Rattle.silk_pitch_analysis.specs.declared.FrameAnswer.{FrameAnswer}
-use Rattle.silk_pitch_analysis.specs.declared.FrameAnswer.TheVariants.{Analysed, Refused}
-use Rattle.silk_pitch_analysis.specs.declared.RowAnswer.{RowAnswer}
-use Rattle.silk_pitch_analysis.specs.declared.RowAnswer.TheVariants.{Analysed as RowAnalysed, Refused as RowRefused}
 
 -- ---- the signals: the working frame w, its 8 kHz form e and its 4 kHz form f
 
@@ -99,27 +95,27 @@ frame_no s n m = cond (eqb (settings_no s) 0) (cond (ltb n (frame_length s)) 4 (
 
 -- the answer, and the lag places at exit
 pub record FrameOutcome : Type 0 where
-  pub answer : FrameAnswer
+  pub answer : Result Verdict ℕ
   pub lags : List ℤ
 
-abbrev pub frame_outcome : FrameAnswer → List ℤ → FrameOutcome
+abbrev pub frame_outcome : Result Verdict ℕ → List ℤ → FrameOutcome
 frame_outcome a l = record { answer = a; lags = l }
 
 -- the nb lag places are written, and the others kept
 unfoldable pub analysed : Settings → Verdict → List ℤ → FrameOutcome
-analysed s v l = frame_outcome (Analysed v) (filled (lag_of s v) s.nb l)
+analysed s v l = frame_outcome (Ok v) (filled (lag_of s v) s.nb l)
 
 -- a refusal changes no lag place; else the first N samples decide
 unfoldable pub frame_call : Settings → List ℤ → List ℤ → ℤ → ℤ → FrameOutcome
 frame_call s x l prev corr =
     cond (eqb (frame_no s (length x) (length l)) 0) (analysed s (verdict_of s (take (frame_length s) x) prev corr) l)
-    (frame_outcome (Refused (frame_no s (length x) (length l))) l)
+    (frame_outcome (Err (frame_no s (length x) (length l))) l)
 
 -- ---- the row call: the same refusals, and the row of the first N samples. A row has four lag places, enough for every nb, so there is no refusal 5
 
-unfoldable pub row_answer : Settings → List ℤ → ℤ → ℤ → RowAnswer
+unfoldable pub row_answer : Settings → List ℤ → ℤ → ℤ → Result Row ℕ
 row_answer s x prev corr =
-    cond (eqb (frame_no s (length x) 4) 0) (RowAnalysed (frame_row s (take (frame_length s) x) prev corr)) (RowRefused (frame_no s (length x) 4))
+    cond (eqb (frame_no s (length x) 4) 0) (Ok (frame_row s (take (frame_length s) x) prev corr)) (Err (frame_no s (length x) 4))
 
 -- ---- the answers in numbers
 
@@ -130,14 +126,14 @@ verdict_numbers Unvoiced = pos 1 ∷ pos 0 ∷ pos 0 ∷ pos 0 ∷ []
 verdict_numbers ZeroDivisor = pos 2 ∷ pos 0 ∷ pos 0 ∷ pos 0 ∷ []
 
 -- a refusal is its number; 0 and the verdict's numbers where there is none
-abbrev pub frame_answer_numbers : FrameAnswer → List ℤ
-frame_answer_numbers (Refused k) = pos k ∷ []
-frame_answer_numbers (Analysed v) = pos 0 ∷ verdict_numbers v
+abbrev pub frame_answer_numbers : Result Verdict ℕ → List ℤ
+frame_answer_numbers (Err k) = pos k ∷ []
+frame_answer_numbers (Ok v) = pos 0 ∷ verdict_numbers v
 
 -- and 0 and the row's eight numbers
-abbrev pub row_answer_in_numbers : RowAnswer → List ℤ
-row_answer_in_numbers (RowRefused k) = pos k ∷ []
-row_answer_in_numbers (RowAnalysed row) = pos 0 ∷ numbers row
+abbrev pub row_answer_in_numbers : Result Row ℕ → List ℤ
+row_answer_in_numbers (Err k) = pos k ∷ []
+row_answer_in_numbers (Ok row) = pos 0 ∷ numbers row
 
 -- what the frame call says of the samples x with m lag places: the refusal, or the first four numbers of the row
 unfoldable pub frame_in_numbers : Settings → List ℤ → ℕ → ℤ → ℤ → List ℤ

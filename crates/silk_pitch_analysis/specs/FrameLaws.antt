@@ -1,11 +1,15 @@
 -- Laws of a frame: its verdict's pair is one that the index code carries, what the stages are handed, and the answers in numbers.
-use Rattle.std.specs.Prelude.{◌≡◌, refl, Bool, true, false, cond, List, [], ◌∷◌, ℕ, ◌+◌, ◌-◌, ◌*◌, ◌/◌, ◌≤◌, ◌<◌, eqb, ltb, ℤ, pos, ◌-ℤ◌, take}
-use Rattle.std.proofs.Common.{◌∙◌, subst, arith, eq-eqb, le-ltb, eqb-true, ltb-false, take_all}
+use Rattle.std.specs.Prelude.{Result, Ok, Err, ◌≡◌, refl, Bool, true, false, cond, List, [], ◌∷◌, ℕ, ◌+◌, ◌-◌, ◌*◌, ◌/◌, ◌≤◌, ◌<◌, eqb, ltb, ℤ, pos, ◌-ℤ◌, take}
+use Rattle.std.proofs.Common.{◌∙◌, subst, arith, eq-eqb, ne_eqb, le-ltb, eqb-true, ltb-false, take_all}
 use Rattle.std.proofs.Math.Path.{ap}
 use Rattle.std.proofs.Math.Logic.{⊎_elim}
 use Rattle.std.proofs.lemmas.Bool.{eqb-false}
 use Rattle.std.proofs.Math.ListN.{length}
 use Rattle.zint.specs.DiffLaws.{eq_of, sub_ud'}
+use Rattle.std.specs.Prelude.{IsErr}
+use Rattle.refusals.specs.declared.Refusal.{Refusal}
+use Rattle.refusals.specs.Refusals.{told, number_told}
+use Rattle.refusals.specs.RefusalsLaws.{refused_positive}
 use Rattle.pitch_settings.specs.declared.Settings.{Settings}
 use Rattle.pitch_settings.specs.Settings.{settings_no, held_no, frame_length}
 use Rattle.pitch_settings.specs.SettingsLaws.{accepted_settings, analysed_held}
@@ -24,10 +28,6 @@ use Rattle.stage3.specs.MeaningLaws.{stage3_means}
 use Rattle.stage3.specs.declared.Found.TheVariants.{Pair}
 use Rattle.silk_pitch_analysis.specs.declared.Verdict.{Verdict}
 use Rattle.silk_pitch_analysis.specs.declared.Verdict.TheVariants.{Voiced, Unvoiced, ZeroDivisor}
-use Rattle.silk_pitch_analysis.specs.declared.FrameAnswer.{FrameAnswer}
-use Rattle.silk_pitch_analysis.specs.declared.FrameAnswer.TheVariants.{Refused}
-use Rattle.silk_pitch_analysis.specs.declared.RowAnswer.{RowAnswer}
-use Rattle.silk_pitch_analysis.specs.declared.RowAnswer.TheVariants.{Analysed as RowAnalysed, Refused as RowRefused}
 use Rattle.silk_pitch_analysis.specs.Steps.{WinnerRange, VerdictCarried, voiced}
 use Rattle.silk_pitch_analysis.specs.Frame.{from_pair, verdict_of, row_from, frame_row, frame_no, FrameOutcome, frame_outcome, analysed, frame_call, row_answer, verdict_numbers, frame_answer_numbers, row_answer_in_numbers, frame_in_numbers, row_in_numbers}
 
@@ -107,19 +107,19 @@ taken s n m h = by (eqb (settings_no s) 0) (ltb n (frame_length s)) (ltb m s.nb)
     by false u v p q r e = absurd (eqb-false (settings_no s) 0 p e)
 
 -- accepted settings and enough samples: the row is said
-pub row_taken : (s : Settings) (x : List ℤ) (prev corr : ℤ) → settings_no s ≡ 0 → frame_length s ≤ length x → row_answer s x prev corr ≡ RowAnalysed (frame_row s (take (frame_length s) x) prev corr)
+pub row_taken : (s : Settings) (x : List ℤ) (prev corr : ℤ) → settings_no s ≡ 0 → frame_length s ≤ length x → row_answer s x prev corr ≡ Ok (frame_row s (take (frame_length s) x) prev corr)
 unfolding row_answer frame_no
 row_taken s x prev corr h l = rw (eq-eqb _ 0 h, le-ltb (length x) (frame_length s) l, le-ltb 4 s.nb (accepted_settings s h).nb_high)
 
-pub row_whole : (s : Settings) (x : List ℤ) (prev corr : ℤ) → settings_no s ≡ 0 → length x ≡ frame_length s → row_answer s x prev corr ≡ RowAnalysed (frame_row s x prev corr)
+pub row_whole : (s : Settings) (x : List ℤ) (prev corr : ℤ) → settings_no s ≡ 0 → length x ≡ frame_length s → row_answer s x prev corr ≡ Ok (frame_row s x prev corr)
 row_whole s x prev corr h l =
-    row_taken s x prev corr h (omega arith) ∙ ap (λ (y : List ℤ). RowAnalysed (frame_row s y prev corr)) (take_all (frame_length s) x (omega arith))
+    row_taken s x prev corr h (omega arith) ∙ ap (λ (y : List ℤ). Ok (frame_row s y prev corr)) (take_all (frame_length s) x (omega arith))
 
 -- an answer has one row, and an answer with a row is no refusal
-pub one_row : (o : RowAnswer) (r q : Row) → o ≡ RowAnalysed r → o ≡ RowAnalysed q → r ≡ q
+pub one_row : (o : Result Row ℕ) (r q : Row) → o ≡ Ok r → o ≡ Ok q → r ≡ q
 one_row o r q e h = cc
 
-pub no_refusal : (o : RowAnswer) (r : Row) (n : ℕ) → o ≡ RowAnalysed r → o ≡ RowRefused n → ⊥
+pub no_refusal : (o : Result Row ℕ) (r : Row) (n : ℕ) → o ≡ Ok r → o ≡ Err n → ⊥
 no_refusal o r n e h = let z : ◌≡◌ {A = ℕ} 0 1 = cc in omega arith
 
 -- ---- the answers in numbers
@@ -132,13 +132,13 @@ verdict_told s Unvoiced = refl
 verdict_told s ZeroDivisor = refl
 
 frame_told : (s : Settings) (v : Verdict) (l : List ℤ) (k : ℕ) (t : Bool) → eqb k 0 ≡ t
-    → frame_answer_numbers (cond t (analysed s v l) (frame_outcome (Refused k) l)).answer ≡ (pos k ∷ cond t (take 4 (numbers (row_from s v))) [])
+    → frame_answer_numbers (cond t (analysed s v l) (frame_outcome (Err k) l)).answer ≡ (pos k ∷ cond t (take 4 (numbers (row_from s v))) [])
 unfolding analysed
 frame_told s v l k true e = rw (eqb-true k 0 e) (ap (λ (n : List ℤ). pos 0 ∷ n) (verdict_told s v))
 frame_told s v l k false e = refl
 
 -- so an outcome that is the defined one is told by the defined numbers
-pub answer_told : (s : Settings) (x l : List ℤ) (prev corr : ℤ) (a : FrameAnswer) (m : List ℤ) → frame_outcome a m ≡ frame_call s x l prev corr
+pub answer_told : (s : Settings) (x l : List ℤ) (prev corr : ℤ) (a : Result Verdict ℕ) (m : List ℤ) → frame_outcome a m ≡ frame_call s x l prev corr
     → (frame_outcome a m ≡ frame_call s x l prev corr) × (frame_answer_numbers a ≡ frame_in_numbers s x (length l) prev corr)
 unfolding frame_call frame_in_numbers frame_row
 answer_told s x l prev corr a m e = (
@@ -147,12 +147,29 @@ answer_told s x l prev corr a m e = (
       ∙ frame_told s (verdict_of s (take (frame_length s) x) prev corr) l (frame_no s (length x) (length l)) (eqb (frame_no s (length x) (length l)) 0) refl,
 )
 
-row_told : (r : Row) (k : ℕ) (t : Bool) → eqb k 0 ≡ t → row_answer_in_numbers (cond t (RowAnalysed r) (RowRefused k)) ≡ (pos k ∷ cond t (numbers r) [])
+row_told : (r : Row) (k : ℕ) (t : Bool) → eqb k 0 ≡ t → row_answer_in_numbers (cond t (Ok r) (Err k)) ≡ (pos k ∷ cond t (numbers r) [])
 row_told r k true e = rw (eqb-true k 0 e)
 row_told r k false e = refl
 
-pub row_answer_told : (s : Settings) (x : List ℤ) (prev corr : ℤ) (a : RowAnswer) → a ≡ row_answer s x prev corr
+pub row_answer_told : (s : Settings) (x : List ℤ) (prev corr : ℤ) (a : Result Row ℕ) → a ≡ row_answer s x prev corr
     → (a ≡ row_answer s x prev corr) × (row_answer_in_numbers a ≡ row_in_numbers s x prev corr)
 unfolding row_answer row_in_numbers
 row_answer_told s x prev corr a e =
     (e, ap row_answer_in_numbers e ∙ row_told (frame_row s (take (frame_length s) x) prev corr) (frame_no s (length x) 4) (eqb (frame_no s (length x) 4) 0) refl)
+
+-- ---- a refusal of the settings or the sizes is the answer's
+
+pub row_refused : (s : Settings) (x : List ℤ) (prev corr : ℤ) (r : Result Row Refusal) → IsErr r → number_told r ≡ frame_no s (length x) 4 → told r ≡ row_answer s x prev corr
+unfolding row_answer
+row_refused s x prev corr (Err r) h e = rw (ne_eqb _ 0 (refused_positive r e)) (ap Err e)
+row_refused s x prev corr (Ok r) h e = cc
+
+pub frame_refused : (s : Settings) (x l : List ℤ) (prev corr : ℤ) (r : Result Verdict Refusal) → IsErr r → number_told r ≡ frame_no s (length x) (length l) → frame_outcome (told r) l ≡ frame_call s x l prev corr
+unfolding frame_call
+frame_refused s x l prev corr (Err r) h e = rw (ne_eqb _ 0 (refused_positive r e)) (ap (λ (n : ℕ). frame_outcome (Err n) l) e)
+frame_refused s x l prev corr (Ok r) h e = cc
+
+-- a frame that is taken is called so
+pub frame_taken : (s : Settings) (x l : List ℤ) (prev corr : ℤ) → settings_no s ≡ 0 → frame_length s ≤ length x → s.nb ≤ length l → frame_call s x l prev corr ≡ analysed s (verdict_of s (take (frame_length s) x) prev corr) l
+unfolding frame_call frame_no
+frame_taken s x l prev corr h n m = rw (eq-eqb _ 0 h, le-ltb (length x) (frame_length s) n, le-ltb (length l) s.nb m)

@@ -1,19 +1,21 @@
 // The frame call: one whitened frame in; verdict, lag index, contour index, correlation and subframe lags out.
 #![tactic(auto)]
 
-ghost use Rattle.std.specs.Prelude.{◌≡◌, ◌+◌, ◌*◌, ◌<◌, ◌≤◌, length, take};
+ghost use Rattle.std.specs.Prelude.{◌≡◌, ◌+◌, ◌*◌, ◌<◌, ◌≤◌, IfOk, length, take};
 ghost use Rattle.lists.specs.Fill.{filled};
-ghost use Rattle.pitch_settings.specs.Settings.{settings_no, frame_length};
+ghost use Rattle.pitch_settings.specs.Settings.{frame_length};
+ghost use Rattle.refusals.specs.Refusals.{told, number_told};
 ghost use Rattle.silk_pitch_analysis.specs.Frame.{from_pair, last_stage, from_winner, from_screen, staged, verdict_of, lag_of, row_from, row_answer, frame_no, frame_outcome, frame_call, frame_answer_numbers, row_answer_in_numbers, frame_in_numbers, row_in_numbers};
 ghost use Rattle.stage1.specs.Stage1.{stage1};
 ghost use Rattle.stage2.specs.Stage2.{stage2};
 ghost use Rattle.stage2_correlations.specs.Marks.{Kept};
-ghost use Rattle.stage3.specs.declared.Found.TheVariants.{Pair};
+ghost use Rattle.stage3.specs.declared.Found.TheVariants.{Pair as FoundPair};
 ghost use Rattle.silk_pitch_analysis.specs.Steps.{VerdictCarried, WinnerRange};
 
 use frame_signals::{frame_4khz, frame_8khz, frame_shift, scale_into, working_frame};
-use pitch_settings::{Settings, frame_length, settings_no};
-use pitch_table::{Row, pair_lag, unpitched_row, voiced_row};
+use pitch_settings::{Analysed, Settings};
+use pitch_table::{Pair, Row};
+use refusals::Refusal;
 use silk_resampler::source_filter;
 use stage1::{Screen, search_stage1};
 use stage2::{Stage2, search_stage2};
@@ -31,43 +33,28 @@ pub enum Verdict {
     ZeroDivisor,
 }
 
-// What the frame call says: the verdict, or the number of a refusal.
-#[derive(Drop)]
-pub enum FrameAnswer {
-    Analysed(Verdict),
-    Refused(usize),
-}
-
-// What `frame_row` says: the frame's row, or the number of a refusal.
-#[derive(Drop)]
-pub enum RowAnswer {
-    Analysed(Row),
-    Refused(usize),
-}
-
-// The number of a refusal, 1 to 5, for n samples and m lag places; or 0.
-fn frame_no(s: Settings, n: usize, m: usize) -> usize
-    ensures { result ≡ frame_no s n m }
+// The settings as analysed ones for n samples and m lag places, or refusal 1 to 5.
+#[tactic(auto, unfolding(crate::specs::Frame::frame_no))]
+fn accept(s: Settings, n: usize, m: usize) -> Result<Analysed, Refusal>
+    ensures number { number_told result ≡ frame_no s n m }
+    ensures settings { IfOk result (λ a. a.settings ≡ s) }
+    ensures samples { IfOk result (λ a. frame_length s ≤ n) }
+    ensures places { IfOk result (λ a. s.nb ≤ m) }
 {
-    let no = settings_no(s);
-    if no != 0 {
-        return no;
+    let analysed = s.analysed()?;
+    if n < analysed.frame_length() {
+        return Err(Refusal::ShortFrame);
     }
-    let len = frame_length(s);
-    if n < len {
-        return 4;
+    if m < s.nb {
+        return Err(Refusal::ShortSlots);
     }
-    let nb = s.nb;
-    if m < nb {
-        return 5;
-    }
-    0
+    Ok(analysed)
 }
 
 // A voiced verdict, from the last stage's lag and contour.
 fn voiced(fs_khz: usize, lag: usize, contour: usize, correlation: i32) -> Verdict
     requires { (fs_khz ≤ 16) × ((lag ≤ 18 * fs_khz) × (contour < 34)) }
-    ensures { result ≡ from_pair fs_khz correlation (Pair lag contour) }
+    ensures { result ≡ from_pair fs_khz correlation (FoundPair lag contour) }
 {
     let index = lag as i32 - (2 * fs_khz) as i32;
     let contour = contour as i32;
@@ -79,10 +66,12 @@ fn voiced(fs_khz: usize, lag: usize, contour: usize, correlation: i32) -> Verdic
 }
 
 // The verdict of stage 2's winner: at 8 kHz its own pair, else stage 3's.
-fn last_stage(w: &[i16], s: Settings, lag: usize, contour: usize, correlation: i32) -> Verdict
-    requires { (settings_no s ≡ 0) × ((length w.now ≡ frame_length s) × WinnerRange s lag contour) }
-    ensures { result ≡ last_stage s w.now lag contour correlation }
+fn last_stage(w: &[i16], s: Analysed, lag: usize, contour: usize, correlation: i32) -> Verdict
+    requires frame { length w.now ≡ frame_length s.settings }
+    requires winner { WinnerRange s.settings lag contour }
+    ensures { result ≡ last_stage s.settings w.now lag contour correlation }
 {
+    let s = s.settings;
     let fs_khz = s.rate;
     if fs_khz == 8 {
         return voiced(fs_khz, lag, contour, correlation);
@@ -97,48 +86,56 @@ fn last_stage(w: &[i16], s: Settings, lag: usize, contour: usize, correlation: i
 }
 
 // The lag of subframe k.
-fn verdict_lag(s: Settings, v: Verdict, k: usize) -> i32
-    requires { (settings_no s ≡ 0) × VerdictCarried s v }
-    ensures { result ≡ lag_of s v k }
+fn verdict_lag(s: Analysed, v: Verdict, k: usize) -> i32
+    requires { VerdictCarried s.settings v }
+    ensures { result ≡ lag_of s.settings v k }
 {
     match v {
-        Verdict::Voiced {
-            index,
-            contour,
-            correlation: _,
-        } => pair_lag(s, index, contour, k),
+        Verdict::Voiced { index, contour, .. } => {
+            let pair = Pair {
+                settings: s.into(),
+                index,
+                contour,
+            };
+            pair.lag(k)
+        }
         Verdict::Unvoiced => 0,
         Verdict::ZeroDivisor => 0,
     }
 }
 
 // The row of a verdict.
-fn verdict_row(s: Settings, v: Verdict) -> Row
-    requires { (settings_no s ≡ 0) × VerdictCarried s v }
-    ensures { result ≡ row_from s v }
+#[tactic(auto, unfolding(crate::specs::Frame::row_from))]
+fn verdict_row(s: Analysed, v: Verdict) -> Row
+    requires { VerdictCarried s.settings v }
+    ensures { result ≡ row_from s.settings v }
 {
     match v {
         Verdict::Voiced {
             index,
             contour,
             correlation,
-        } => voiced_row(s, index, contour, correlation),
-        Verdict::Unvoiced => unpitched_row(1),
-        Verdict::ZeroDivisor => unpitched_row(2),
+        } => {
+            let pair = Pair {
+                settings: s.into(),
+                index,
+                contour,
+            };
+            pair.row(correlation)
+        }
+        Verdict::Unvoiced => Row::unpitched(1),
+        Verdict::ZeroDivisor => Row::unpitched(2),
     }
 }
 
 // The lags of the nb subframes.
-fn put_lags(out: &mut [i32], s: Settings, v: Verdict)
-    requires { (settings_no s ≡ 0) × (VerdictCarried s v × (s.nb ≤ length out.old)) }
-    ensures { out.new ≡ filled (lag_of s v) s.nb out.old }
+fn put_lags(out: &mut [i32], s: Analysed, v: Verdict)
+    requires verdict { VerdictCarried s.settings v }
+    requires places { s.settings.nb ≤ length out.old }
+    ensures { out.new ≡ filled (lag_of s.settings v) s.settings.nb out.old }
 {
-    let nb = s.nb;
-    let mut k = 0;
-    while k < nb {
-        let lag = verdict_lag(s, v, k);
-        out[k] = lag;
-        k += 1;
+    for k in 0..s.settings.nb {
+        out[k] = verdict_lag(s, v, k);
     }
 }
 
@@ -147,20 +144,22 @@ fn second_stage(
     w: &[i16],
     e: &[i16],
     kept: &[usize],
-    s: Settings,
+    s: Analysed,
     prev_lag: i32,
     prev_corr: i32,
 ) -> Verdict
-    requires { (settings_no s ≡ 0) × ((length w.now ≡ frame_length s) × ((length e.now ≡ (20 + 5 * s.nb) * 8) × Kept kept.now)) }
-    ensures { result ≡ from_winner s w.now (stage2 e.now kept.now s.rate s.nb s.complexity s.thres2 prev_lag prev_corr) }
+    requires frame { length w.now ≡ frame_length s.settings }
+    requires eight { length e.now ≡ (20 + 5 * s.settings.nb) * 8 }
+    requires kept { Kept kept.now }
+    ensures { result ≡ from_winner s.settings w.now (stage2 e.now kept.now s.settings.rate s.settings.nb s.settings.complexity s.settings.thres2 prev_lag prev_corr) }
 {
     let answer = search_stage2(
         e,
         kept,
-        s.rate,
-        s.nb,
-        s.complexity,
-        s.thres2,
+        s.settings.rate,
+        s.settings.nb,
+        s.settings.complexity,
+        s.settings.thres2,
         prev_lag,
         prev_corr,
     );
@@ -176,11 +175,13 @@ fn second_stage(
 }
 
 // The stages in order, on the working frame and its forms at 8 and 4 kHz.
-fn stages(w: &[i16], e: &[i16], f: &[i16], s: Settings, prev_lag: i32, prev_corr: i32) -> Verdict
-    requires { (settings_no s ≡ 0) × ((length w.now ≡ frame_length s) × ((length e.now ≡ (20 + 5 * s.nb) * 8) × (length f.now ≡ (20 + 5 * s.nb) * 4))) }
-    ensures { result ≡ from_screen s w.now e.now f.now prev_lag prev_corr (stage1 f.now s.nb s.complexity s.thres1).screen }
+fn stages(w: &[i16], e: &[i16], f: &[i16], s: Analysed, prev_lag: i32, prev_corr: i32) -> Verdict
+    requires frame { length w.now ≡ frame_length s.settings }
+    requires eight { length e.now ≡ (20 + 5 * s.settings.nb) * 8 }
+    requires four { length f.now ≡ (20 + 5 * s.settings.nb) * 4 }
+    ensures { result ≡ from_screen s.settings w.now e.now f.now prev_lag prev_corr (stage1 f.now s.settings.nb s.settings.complexity s.settings.thres1).screen }
 {
-    let first = search_stage1(f, s.nb, s.complexity, s.thres1);
+    let first = search_stage1(f, s.settings.nb, s.settings.complexity, s.settings.thres1);
     let screen = first.screen;
     let lags = first.lags;
     let count = first.count;
@@ -192,14 +193,14 @@ fn stages(w: &[i16], e: &[i16], f: &[i16], s: Settings, prev_lag: i32, prev_corr
 }
 
 // The working frame w through all stages.
-fn analyse_working(w: &[i16], s: Settings, prev_lag: i32, prev_corr: i32) -> Verdict
-    requires { (settings_no s ≡ 0) × (length w.now ≡ frame_length s) }
-    ensures { result ≡ staged s w.now prev_lag prev_corr }
+fn analyse_working(w: &[i16], s: Analysed, prev_lag: i32, prev_corr: i32) -> Verdict
+    requires { length w.now ≡ frame_length s.settings }
+    ensures { result ≡ staged s.settings w.now prev_lag prev_corr }
 {
     let mut buf_8khz = [0i16; 320];
     let mut buf_4khz = [0i16; 160];
-    let fs_khz = s.rate;
-    let nb = s.nb;
+    let fs_khz = s.settings.rate;
+    let nb = s.settings.nb;
     let n8 = (20 + 5 * nb) * 8;
     let n4 = (20 + 5 * nb) * 4;
     frame_8khz(w, &mut buf_8khz, fs_khz, source_filter());
@@ -208,11 +209,12 @@ fn analyse_working(w: &[i16], s: Settings, prev_lag: i32, prev_corr: i32) -> Ver
 }
 
 // The verdict of the first N samples.
-fn analyse(frame: &[i16], s: Settings, prev_lag: i32, prev_corr: i32) -> Verdict
-    requires { (settings_no s ≡ 0) × (frame_length s ≤ length frame.now) }
-    ensures { result ≡ verdict_of s (take (frame_length s) frame.now) prev_lag prev_corr }
+fn analyse(frame: &[i16], s: Analysed, prev_lag: i32, prev_corr: i32) -> Verdict
+    requires { frame_length s.settings ≤ length frame.now }
+    ensures verdict { result ≡ verdict_of s.settings (take (frame_length s.settings) frame.now) prev_lag prev_corr }
+    ensures carried { VerdictCarried s.settings result }
 {
-    let n = frame_length(s);
+    let n = s.frame_length();
     let mut scratch = [0i16; 640];
     let shift = frame_shift(frame, n);
     scale_into(frame, &mut scratch, n, shift);
@@ -221,17 +223,13 @@ fn analyse(frame: &[i16], s: Settings, prev_lag: i32, prev_corr: i32) -> Verdict
 }
 
 // The row of the first N samples, or refusals 1 to 4 in order: a row has four lag places, so 5 never comes.
-pub fn frame_row(s: Settings, x: &[i16], prev_lag: i32, prev_corr: i32) -> RowAnswer
-    ensures value { result ≡ row_answer s x.now prev_lag prev_corr }
-    ensures result_value { row_answer_in_numbers result ≡ row_in_numbers s x.now prev_lag prev_corr }
+pub fn frame_row(s: Settings, x: &[i16], prev_lag: i32, prev_corr: i32) -> Result<Row, Refusal>
+    ensures answer { told result ≡ row_answer s x.now prev_lag prev_corr }
+    ensures numbers { row_answer_in_numbers (told result) ≡ row_in_numbers s x.now prev_lag prev_corr }
 {
-    let no = frame_no(s, x.len(), 4);
-    if no != 0 {
-        return RowAnswer::Refused(no);
-    }
-    let v = analyse(x, s, prev_lag, prev_corr);
-    let row = verdict_row(s, v);
-    RowAnswer::Analysed(row)
+    let analysed = accept(s, x.len(), 4)?;
+    let v = analyse(x, analysed, prev_lag, prev_corr);
+    Ok(verdict_row(analysed, v))
 }
 
 // The frame call. Refusals 1 to 5 in order leave the lag places as they are; else the first N samples are analysed, and the first nb lag places are written.
@@ -241,15 +239,12 @@ pub fn silk_pitch_analysis_core(
     s: Settings,
     prev_lag: i32,
     prev_corr: i32,
-) -> FrameAnswer
-    ensures pitch_out_after { frame_outcome result pitch_out.new ≡ frame_call s frame.now pitch_out.old prev_lag prev_corr }
-    ensures result_value { frame_answer_numbers result ≡ frame_in_numbers s frame.now (length pitch_out.old) prev_lag prev_corr }
+) -> Result<Verdict, Refusal>
+    ensures outcome { frame_outcome (told result) pitch_out.new ≡ frame_call s frame.now pitch_out.old prev_lag prev_corr }
+    ensures numbers { frame_answer_numbers (told result) ≡ frame_in_numbers s frame.now (length pitch_out.old) prev_lag prev_corr }
 {
-    let no = frame_no(s, frame.len(), pitch_out.len());
-    if no != 0 {
-        return FrameAnswer::Refused(no);
-    }
-    let v = analyse(frame, s, prev_lag, prev_corr);
-    put_lags(pitch_out, s, v);
-    FrameAnswer::Analysed(v)
+    let analysed = accept(s, frame.len(), pitch_out.len())?;
+    let v = analyse(frame, analysed, prev_lag, prev_corr);
+    put_lags(pitch_out, analysed, v);
+    Ok(v)
 }

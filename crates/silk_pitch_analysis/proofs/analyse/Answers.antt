@@ -1,11 +1,13 @@
 -- `silk_pitch_analysis::analyse` meets its contract.
-use mathlib.Core.Path.{◌≡◌, ap, ◌∙◌}
+use mathlib.Core.Path.{◌≡◌, sym, ap, ◌∙◌, subst}
 use mathlib.Core.List.{List}
 use Prim.Native.Nat.{ℕ, ◌≤◌}
 use native.Mathlib.Omega.{arith}
 use lib.IntN.{ℤ}
 use lib.ListN.{length, take}
 use lib.Seq.{length-take-le}
+use Rattle.std.specs.Int.{w32}
+use Rattle.std.proofs.Common.{SFits, to_z, of_z}
 use Rattle.zint.specs.ReadLaws.{r_var}
 use Rattle.lists.specs.Fill.{filled}
 use Rattle.pitch_settings.specs.declared.Settings.{Settings}
@@ -13,24 +15,24 @@ use Rattle.pitch_settings.specs.Settings.{frame_length}
 use Rattle.pitch_settings.specs.SettingsLaws.{accepted_settings}
 use Rattle.frame_signals.specs.Scale.{scaled, down_shift, shifted_at, moved_count, holder}
 use Rattle.frame_signals.specs.ScaleLaws.{length_scaled, working_scaled}
+use Rattle.silk_pitch_analysis.specs.declared.Verdict.{Verdict}
 use Rattle.silk_pitch_analysis.specs.Frame.{staged, verdict_of}
+use Rattle.silk_pitch_analysis.specs.Steps.{VerdictCarried}
+use Rattle.silk_pitch_analysis.specs.VerdictLaws.{first_carried}
 use Rattle.silk_pitch_analysis.proofs.analyse.Goals as goal
-
-pub frame_length-n-requires : goal.frame_length-n-requires
-frame_length-n-requires c = c.requires.0
 
 pub frame_shift-shift-requires : goal.frame_shift-shift-requires
 frame_shift-shift-requires c =
-    let a = accepted_settings _ c.requires.0 in
-    (omega (arith, a.some, a.within, c.frame_length-n.ensures), (omega (arith, c.frame_length-n.ensures, a.small), omega (arith, c.frame_length-n.ensures, c.requires.1)))
+    let a = accepted_settings _ c.args.s.analysed in
+    (omega (arith, a.some, a.within, c.frame_length-n.ensures), (omega (arith, c.frame_length-n.ensures, a.small), omega (arith, c.frame_length-n.ensures, c.requires)))
 
 pub scale_into-requires : goal.scale_into-requires
 scale_into-requires c =
-    (omega (arith, c.frame_length-n.ensures, c.requires.1), (omega (arith, c.frame_length-n.ensures, (accepted_settings _ c.requires.0).small), c.frame_shift-shift.ensures.1))
+    (omega (arith, c.frame_length-n.ensures, c.requires), (omega (arith, c.frame_length-n.ensures, (accepted_settings _ c.args.s.analysed).small), c.frame_shift-shift.ensures.1))
 
 pub working_frame-w-requires : goal.working_frame-w-requires
 working_frame-w-requires c =
-    (omega (arith, c.frame_length-n.ensures, c.requires.1), omega (arith, c.frame_length-n.ensures, (accepted_settings _ c.requires.0).small, c.scale_into.auto.scratch))
+    (omega (arith, c.frame_length-n.ensures, c.requires), omega (arith, c.frame_length-n.ensures, (accepted_settings _ c.args.s.analysed).small, c.scale_into.auto.scratch))
 
 -- the working frame w, of the first n samples of x, with the shift k and the scratch as they were computed
 working : (s : Settings) (x l : List ℤ) (n : ℕ) {k : ℕ} {scratch w : List ℤ} → n ≤ length x → n ≡ frame_length s → k ≡ down_shift (take n x) → scratch ≡ filled (shifted_at x k) (moved_count k n) l
@@ -39,13 +41,18 @@ working s x l n h e f g q = q ∙ working_scaled x l n h f g ∙ ap (λ (m : ℕ
 
 pub analyse_working-requires : goal.analyse_working-requires
 analyse_working-requires c =
-    let e = working c.args.s c.args.frame.now _ c.frame_length-n.result (omega (arith, c.frame_length-n.ensures, c.requires.1)) c.frame_length-n.ensures c.frame_shift-shift.ensures.0 c.scale_into.ensures c.working_frame-w.ensures in
-    (c.requires.0, ap length e ∙ length_scaled (take (frame_length c.args.s) c.args.frame.now) ∙ length-take-le (frame_length c.args.s) c.args.frame.now c.requires.1)
+    let e = working c.args.s.settings c.args.frame.now _ c.frame_length-n.result (omega (arith, c.frame_length-n.ensures, c.requires)) c.frame_length-n.ensures c.frame_shift-shift.ensures.0 c.scale_into.ensures c.working_frame-w.ensures in
+    ap length e ∙ length_scaled (take (frame_length c.args.s.settings) c.args.frame.now) ∙ length-take-le (frame_length c.args.s.settings) c.args.frame.now c.requires
+
+-- the verdict of the working frame, of the numbers as the code hands them on
+verdict : (s : Settings) (x : List ℤ) {w : List ℤ} {prev corr : ℤ} {v : Verdict} → SFits w32 prev → SFits w32 corr → w ≡ scaled (take (frame_length s) x)
+    → v ≡ staged s w (to_z w32 (of_z w32 prev)) (to_z w32 (of_z w32 corr)) → v ≡ verdict_of s (take (frame_length s) x) prev corr
+unfolding verdict_of
+verdict s x p q e h = h ∙ (λ i. staged s (e i) ((r_var p).val i) ((r_var q).val i))
 
 pub returns : goal.returns
-unfolding verdict_of
 returns c =
     let a = c.args in
-    let e = working a.s a.frame.now _ c.frame_length-n.result (omega (arith, c.frame_length-n.ensures, c.requires.1)) c.frame_length-n.ensures c.frame_shift-shift.ensures.0 c.scale_into.ensures c.working_frame-w.ensures in
-    c.analyse_working.ensures
-    ∙ (λ i. staged a.s (e i) ((r_var c.ranges.prev_lag).val i) ((r_var c.ranges.prev_corr).val i))
+    let w = working a.s.settings a.frame.now _ c.frame_length-n.result (omega (arith, c.frame_length-n.ensures, c.requires)) c.frame_length-n.ensures c.frame_shift-shift.ensures.0 c.scale_into.ensures c.working_frame-w.ensures in
+    let v = verdict a.s.settings a.frame.now c.ranges.prev_lag c.ranges.prev_corr w c.analyse_working.ensures in
+    record { verdict = v; carried = subst (VerdictCarried a.s.settings) (sym v) (first_carried a.s.settings a.frame.now a.s.analysed c.requires a.prev_lag a.prev_corr) }

@@ -34,67 +34,67 @@ module _ (s : Settings) (w : List ℤ) (h : settings_no s ≡ 0) (len : length w
       ∙ take_overwritten (signal4 s w) (replicate 160 (pos 0)) ((20 + 5 * s.nb) * 4) (four_length s w h len)
 
 pub overflow_mul-n8 : goal.overflow_mul-n8
-overflow_mul-n8 c = omega (arith, (accepted_settings _ c.requires.0).nb_high)
+overflow_mul-n8 c = omega (arith, (accepted_settings _ c.args.s.analysed).nb_high)
 
 pub overflow_add-n8 : goal.overflow_add-n8
-overflow_add-n8 c = omega (arith, (accepted_settings _ c.requires.0).nb_high)
+overflow_add-n8 c = omega (arith, (accepted_settings _ c.args.s.analysed).nb_high)
 
 pub overflow_mul-n8-2 : goal.overflow_mul-n8-2
-overflow_mul-n8-2 c = omega (arith, (accepted_settings _ c.requires.0).nb_high)
+overflow_mul-n8-2 c = omega (arith, (accepted_settings _ c.args.s.analysed).nb_high)
 
 pub overflow_mul-n4 : goal.overflow_mul-n4
-overflow_mul-n4 c = omega (arith, (accepted_settings _ c.requires.0).nb_high)
+overflow_mul-n4 c = omega (arith, (accepted_settings _ c.args.s.analysed).nb_high)
 
 pub overflow_add-n4 : goal.overflow_add-n4
-overflow_add-n4 c = omega (arith, (accepted_settings _ c.requires.0).nb_high)
+overflow_add-n4 c = omega (arith, (accepted_settings _ c.args.s.analysed).nb_high)
 
 pub overflow_mul-n4-2 : goal.overflow_mul-n4-2
-overflow_mul-n4-2 c = omega (arith, (accepted_settings _ c.requires.0).nb_high)
+overflow_mul-n4-2 c = omega (arith, (accepted_settings _ c.args.s.analysed).nb_high)
 
 pub frame_8khz-requires : goal.frame_8khz-requires
 frame_8khz-requires c =
     let a = c.args in
     let f = c.source_filter.ensures in
-    let l : length (down_to_8khz c.source_filter.result a.s.rate a.w.now) ≡ (20 + 5 * a.s.nb) * 8 =
-    ap (λ (F : Filter). length (down_to_8khz F a.s.rate a.w.now)) f.0 ∙ eight_length a.s a.w.now c.requires.0 c.requires.1 in
-    (omega (arith, l, (accepted_settings _ c.requires.0).nb_high), (at_12 a.s a.w.now c.requires.0 c.requires.1, f.1))
+    let l : length (down_to_8khz c.source_filter.result a.s.settings.rate a.w.now) ≡ (20 + 5 * a.s.settings.nb) * 8 =
+    ap (λ (F : Filter). length (down_to_8khz F a.s.settings.rate a.w.now)) f.0 ∙ eight_length a.s.settings a.w.now c.args.s.analysed c.requires in
+    (omega (arith, l, (accepted_settings _ c.args.s.analysed).nb_high), (at_12 a.s.settings a.w.now c.args.s.analysed c.requires, f.1))
 
 pub slice_bounds-buf_8khz-end : goal.slice_bounds-buf_8khz-end
-slice_bounds-buf_8khz-end c = omega (arith, c.frame_8khz.auto.out, (accepted_settings _ c.requires.0).nb_high)
+slice_bounds-buf_8khz-end c = omega (arith, c.frame_8khz.auto.out, (accepted_settings _ c.args.s.analysed).nb_high)
 
 pub slice_bounds-frame_4khz-end : goal.slice_bounds-frame_4khz-end
 slice_bounds-frame_4khz-end c =
     let a = c.args in
-    sym (ap length (eight_front a.s a.w.now c.requires.0 c.requires.1 c.source_filter.ensures.0 c.frame_8khz.ensures) ∙ eight_length a.s a.w.now c.requires.0 c.requires.1)
+    sym (ap length (eight_front a.s.settings a.w.now c.args.s.analysed c.requires c.source_filter.ensures.0 c.frame_8khz.ensures) ∙ eight_length a.s.settings a.w.now c.args.s.analysed c.requires)
 
 pub slice_bounds-buf_8khz-end-2 : goal.slice_bounds-buf_8khz-end-2
-slice_bounds-buf_8khz-end-2 c = omega (arith, c.frame_8khz.auto.out, (accepted_settings _ c.requires.0).nb_high)
+slice_bounds-buf_8khz-end-2 c = omega (arith, c.frame_8khz.auto.out, (accepted_settings _ c.args.s.analysed).nb_high)
 
 pub slice_bounds-stages-end : goal.slice_bounds-stages-end
 slice_bounds-stages-end c =
     let a = c.args in
-    sym (ap length (eight_front a.s a.w.now c.requires.0 c.requires.1 c.source_filter.ensures.0 c.frame_8khz.ensures) ∙ eight_length a.s a.w.now c.requires.0 c.requires.1)
+    sym (ap length (eight_front a.s.settings a.w.now c.args.s.analysed c.requires c.source_filter.ensures.0 c.frame_8khz.ensures) ∙ eight_length a.s.settings a.w.now c.args.s.analysed c.requires)
 
 pub slice_bounds-buf_4khz-end : goal.slice_bounds-buf_4khz-end
-slice_bounds-buf_4khz-end c = omega (arith, c.frame_4khz.auto.out, (accepted_settings _ c.requires.0).nb_high)
+slice_bounds-buf_4khz-end c = omega (arith, c.frame_4khz.auto.out, (accepted_settings _ c.args.s.analysed).nb_high)
 
 pub slice_bounds-stages-end-2 : goal.slice_bounds-stages-end-2
 slice_bounds-stages-end-2 c =
     let a = c.args in
-    sym (ap length (four_front a.s a.w.now c.requires.0 c.requires.1 (eight_front a.s a.w.now c.requires.0 c.requires.1 c.source_filter.ensures.0 c.frame_8khz.ensures) c.frame_4khz.ensures) ∙ four_length a.s a.w.now c.requires.0 c.requires.1)
+    sym (ap length (four_front a.s.settings a.w.now c.args.s.analysed c.requires (eight_front a.s.settings a.w.now c.args.s.analysed c.requires c.source_filter.ensures.0 c.frame_8khz.ensures) c.frame_4khz.ensures) ∙ four_length a.s.settings a.w.now c.args.s.analysed c.requires)
 
 pub stages-requires : goal.stages-requires
 stages-requires c =
     let a = c.args in
-    let e = eight_front a.s a.w.now c.requires.0 c.requires.1 c.source_filter.ensures.0 c.frame_8khz.ensures in
-    let f = four_front a.s a.w.now c.requires.0 c.requires.1 e c.frame_4khz.ensures in
-    (c.requires.0, (c.requires.1, (ap length e ∙ eight_length a.s a.w.now c.requires.0 c.requires.1, ap length f ∙ four_length a.s a.w.now c.requires.0 c.requires.1)))
+    let e = eight_front a.s.settings a.w.now c.args.s.analysed c.requires c.source_filter.ensures.0 c.frame_8khz.ensures in
+    let f = four_front a.s.settings a.w.now c.args.s.analysed c.requires e c.frame_4khz.ensures in
+    record { frame = c.requires; eight = ap length e ∙ eight_length a.s.settings a.w.now c.args.s.analysed c.requires; four = ap length f ∙ four_length a.s.settings a.w.now c.args.s.analysed c.requires }
 
 pub returns : goal.returns
 unfolding staged
 returns c =
     let a = c.args in
-    let e = eight_front a.s a.w.now c.requires.0 c.requires.1 c.source_filter.ensures.0 c.frame_8khz.ensures in
-    let f = four_front a.s a.w.now c.requires.0 c.requires.1 e c.frame_4khz.ensures in
-    let run : List ℤ → List ℤ → ℤ → ℤ → Verdict = λ x y pl pc. from_screen a.s a.w.now x y pl pc (stage1 y a.s.nb a.s.complexity a.s.thres1).screen in
+    let e = eight_front a.s.settings a.w.now c.args.s.analysed c.requires c.source_filter.ensures.0 c.frame_8khz.ensures in
+    let f = four_front a.s.settings a.w.now c.args.s.analysed c.requires e c.frame_4khz.ensures in
+    let run : List ℤ → List ℤ → ℤ → ℤ → Verdict = λ x y pl pc. from_screen a.s.settings a.w.now x y pl pc (stage1 y a.s.settings.nb a.s.settings.complexity a.s.settings.thres1).screen in
     c.stages.ensures ∙ (λ i. run (e i) (f i) ((r_var c.ranges.prev_lag).val i) ((r_var c.ranges.prev_corr).val i))

@@ -25,32 +25,32 @@ answer s e kept prev corr f g h q = q ∙ (λ i. stage2 e kept s.rate s.nb s.com
 pub search_stage2-answer-requires : goal.search_stage2-answer-requires
 search_stage2-answer-requires c =
     let p = c.requires in
-    let a = accepted_settings _ p.0 in
-    record { rate = a.rate; subframes = a.subframes; complexity = omega (arith, a.complexity); long = omega (arith, p.1.1.0); lags = p.1.1.1 }
+    let a = accepted_settings _ c.args.s.analysed in
+    record { rate = a.rate; subframes = a.subframes; complexity = omega (arith, a.complexity); long = omega (arith, p.eight); lags = p.kept }
 
 pub last_stage-requires : goal.last_stage-requires
 last_stage-requires c =
     let a = c.args in
-    let q = answer a.s a.e.now a.kept.now a.prev_lag a.prev_corr (search zneeds) c.ranges.prev_lag c.ranges.prev_corr c.search_stage2-answer.ensures.value in
-    let r = winner_range a.e.now a.kept.now a.s.rate a.s.nb a.s.complexity a.s.thres2 a.prev_lag a.prev_corr _ _ _ (sym q ∙ c.in-Winner.is) in
-    (c.requires.0, (c.requires.1.0, record { low = r.0; high = r.1.0; tried = r.1.1 }))
+    let q = answer a.s.settings a.e.now a.kept.now a.prev_lag a.prev_corr (search zneeds) c.ranges.prev_lag c.ranges.prev_corr c.search_stage2-answer.ensures.value in
+    let r = winner_range a.e.now a.kept.now a.s.settings.rate a.s.settings.nb a.s.settings.complexity a.s.settings.thres2 a.prev_lag a.prev_corr _ _ _ (sym q ∙ c.in-Winner.is) in
+    record { frame = c.requires.frame; winner = record { low = r.0; high = r.1.0; tried = r.1.1 } }
 
 pub returns-in-Winner : goal.returns-in-Winner
 returns-in-Winner c =
     let a = c.args in
     let v = c.in-Winner in
-    let q = answer a.s a.e.now a.kept.now a.prev_lag a.prev_corr (search zneeds) c.ranges.prev_lag c.ranges.prev_corr c.search_stage2-answer.ensures.value in
+    let q = answer a.s.settings a.e.now a.kept.now a.prev_lag a.prev_corr (search zneeds) c.ranges.prev_lag c.ranges.prev_corr c.search_stage2-answer.ensures.value in
     let k : to_z w32 (of_z w32 v.correlation) ≡ v.correlation = search zneeds in
-    c.last_stage.ensures ∙ ap (last_stage a.s a.w.now v.lag v.contour) k ∙ ap (from_winner a.s a.w.now) (sym v.is ∙ q)
+    c.last_stage.ensures ∙ ap (last_stage a.s.settings a.w.now v.lag v.contour) k ∙ ap (from_winner a.s.settings a.w.now) (sym v.is ∙ q)
 
 pub returns-in-Unvoiced : goal.returns-in-Unvoiced
 returns-in-Unvoiced c =
     let a = c.args in
-    let q = answer a.s a.e.now a.kept.now a.prev_lag a.prev_corr (search zneeds) c.ranges.prev_lag c.ranges.prev_corr c.search_stage2-answer.ensures.value in
-    ap (from_winner a.s a.w.now) (sym c.in-Unvoiced.is ∙ q)
+    let q = answer a.s.settings a.e.now a.kept.now a.prev_lag a.prev_corr (search zneeds) c.ranges.prev_lag c.ranges.prev_corr c.search_stage2-answer.ensures.value in
+    ap (from_winner a.s.settings a.w.now) (sym c.in-Unvoiced.is ∙ q)
 
 pub returns-in-ZeroDivisor : goal.returns-in-ZeroDivisor
 returns-in-ZeroDivisor c =
     let a = c.args in
-    let q = answer a.s a.e.now a.kept.now a.prev_lag a.prev_corr (search zneeds) c.ranges.prev_lag c.ranges.prev_corr c.search_stage2-answer.ensures.value in
-    ap (from_winner a.s a.w.now) (sym c.in-ZeroDivisor.is ∙ q)
+    let q = answer a.s.settings a.e.now a.kept.now a.prev_lag a.prev_corr (search zneeds) c.ranges.prev_lag c.ranges.prev_corr c.search_stage2-answer.ensures.value in
+    ap (from_winner a.s.settings a.w.now) (sym c.in-ZeroDivisor.is ∙ q)

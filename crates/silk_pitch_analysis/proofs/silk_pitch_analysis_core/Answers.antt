@@ -1,56 +1,31 @@
 -- `silk_pitch_analysis::silk_pitch_analysis_core` meets its contract.
-use mathlib.Core.Path.{◌≡◌, sym, ap, ◌∙◌, subst}
-use mathlib.Core.List.{List}
-use Prim.Native.Nat.{ℕ}
-use borrow.Author.Tests.{eq-eqb, ne_eqb}
-use lib.IntN.{ℤ}
-use lib.ListN.{length, take}
-use mir.Syntax.{w32}
-use mir.Val.{SFits, to_z, of_z}
+use Rattle.std.proofs.Common.{◌≡◌, sym, ap, ◌∙◌, rules}
+use Rattle.std.specs.Prelude.{ℤ, List, Ok, length, take}
 use Rattle.zint.specs.ReadLaws.{r_var}
-use Rattle.pitch_settings.specs.declared.Settings.{Settings}
-use Rattle.pitch_settings.specs.Settings.{frame_length}
-use Rattle.silk_pitch_analysis.specs.declared.Verdict.{Verdict}
-use Rattle.silk_pitch_analysis.specs.declared.FrameAnswer.TheVariants.{Refused, Analysed}
-use Rattle.silk_pitch_analysis.specs.Frame.{verdict_of, frame_no, frame_outcome, analysed, frame_call}
-use Rattle.silk_pitch_analysis.specs.Steps.{VerdictCarried}
-use Rattle.silk_pitch_analysis.specs.FrameLaws.{taken, answer_told}
-use Rattle.silk_pitch_analysis.specs.VerdictLaws.{first_carried}
+use Rattle.pitch_settings.specs.Settings.{settings_no, frame_length}
+use Rattle.refusals.specs.Refusals.{number_told}
+use Rattle.silk_pitch_analysis.specs.Frame.{verdict_of, frame_no, frame_outcome, analysed}
+use Rattle.silk_pitch_analysis.specs.FrameLaws.{frame_taken, frame_refused, answer_told}
 use Rattle.silk_pitch_analysis.proofs.silk_pitch_analysis_core.Goals as goal
 
--- the verdict, of the numbers as the code hands them on
-verdict : (s : Settings) (x : List ℤ) (prev corr : ℤ) {v : Verdict} → SFits w32 prev → SFits w32 corr → v ≡ verdict_of s x (to_z w32 (of_z w32 prev)) (to_z w32 (of_z w32 corr))
-    → v ≡ verdict_of s x prev corr
-verdict s x prev corr f g e = e ∙ (λ i. verdict_of s x ((r_var f).val i) ((r_var g).val i))
-
 -- a refusal, with the lag places as they were
-pub returns-then-no-ne0 : goal.returns-then-no-ne0
-unfolding frame_call
-returns-then-no-ne0 c =
+pub returns-in_err-analysed : goal.returns-in_err-analysed
+returns-in_err-analysed c =
     let a = c.args in
-    let e = c.frame_no-no.ensures in
-    let t = answer_told a.s a.frame.now a.pitch_out.now a.prev_lag a.prev_corr _ _
-    (rw (ne_eqb _ 0 (λ (z : frame_no a.s (length a.frame.now) (length a.pitch_out.now) ≡ 0). c.if-no-ne0.true (e ∙ z)))
-    (ap (λ (k : ℕ). frame_outcome (Refused k) a.pitch_out.now) e)) in
-    record { pitch_out_after = t.0; result_value = t.1 }
-
-pub analyse-v-requires : goal.analyse-v-requires
-analyse-v-requires c = let t = taken _ _ _ (sym c.frame_no-no.ensures ∙ c.if-no-ne0.false) in (t.settings, t.samples)
-
-pub put_lags-requires : goal.put_lags-requires
-put_lags-requires c =
-    let a = c.args in
-    let t = taken _ _ _ (sym c.frame_no-no.ensures ∙ c.if-no-ne0.false) in
-    let v = verdict a.s (take (frame_length a.s) a.frame.now) a.prev_lag a.prev_corr c.ranges.prev_lag c.ranges.prev_corr c.analyse-v.ensures in
-    (t.settings, (subst (VerdictCarried a.s) (sym v) (first_carried a.s a.frame.now t.settings t.samples a.prev_lag a.prev_corr), t.places))
+    let n : number_told c.from_residual.result ≡ frame_no a.s (length a.frame.now) (length a.pitch_out.now) = search rules in
+    let t = answer_told a.s a.frame.now a.pitch_out.now a.prev_lag a.prev_corr _ _ (frame_refused a.s a.frame.now a.pitch_out.now a.prev_lag a.prev_corr c.from_residual.result c.from_residual.ensures.0 n) in
+    record { outcome = t.0; numbers = t.1 }
 
 pub returns : goal.returns
-unfolding frame_call analysed
+unfolding analysed
 returns c =
     let a = c.args in
-    let v = verdict a.s (take (frame_length a.s) a.frame.now) a.prev_lag a.prev_corr c.ranges.prev_lag c.ranges.prev_corr c.analyse-v.ensures in
+    let f = c.ranges in
+    let o = c.in_ok-analysed in
+    let e = o.ensures.settings in
+    let v = c.analyse-v.ensures.verdict ∙ (λ i. verdict_of (e i) (take (frame_length (e i)) a.frame.now) ((r_var f.prev_lag).val i) ((r_var f.prev_corr).val i)) in
     let t = answer_told a.s a.frame.now a.pitch_out.now a.prev_lag a.prev_corr _ _
-    (rw (eq-eqb _ 0 (sym c.frame_no-no.ensures ∙ c.if-no-ne0.false))
-    (ap (λ (l : List ℤ). frame_outcome (Analysed c.analyse-v.result) l) c.put_lags.ensures
-    ∙ ap (λ (x : Verdict). analysed a.s x a.pitch_out.now) v)) in
-    record { pitch_out_after = t.0; result_value = t.1 }
+    (ap (λ (l : List ℤ). frame_outcome (Ok c.analyse-v.result) l) c.put_lags.ensures
+    ∙ (λ i. analysed (e i) (v i) a.pitch_out.now)
+    ∙ sym (frame_taken a.s a.frame.now a.pitch_out.now a.prev_lag a.prev_corr (ap settings_no (sym e) ∙ o.analysed.analysed) o.ensures.samples o.ensures.places)) in
+    record { outcome = t.0; numbers = t.1 }

@@ -52,47 +52,47 @@ module _ (s : Settings) (f : List ℤ) (h : settings_no s ≡ 0) where
 
 pub search_stage1-first-requires : goal.search_stage1-first-requires
 search_stage1-first-requires c =
-    let a = accepted_settings _ c.requires.0 in
-    record { subframes = a.subframes; complexity = omega (arith, a.complexity); long = omega (arith, c.requires.1.1.1) }
+    let a = accepted_settings _ c.args.s.analysed in
+    record { subframes = a.subframes; complexity = omega (arith, a.complexity); long = omega (arith, c.requires.four) }
 
 pub slice_bounds-lags-end : goal.slice_bounds-lags-end
 slice_bounds-lags-end c =
     let a = c.args in
     let r = c.search_stage1-first in
-    omega (arith, size a.s a.f.now c.requires.0 r.result (search zneeds) r.ensures.value, count_le a.s a.f.now c.requires.0 r.result (search zneeds) r.ensures.value)
+    omega (arith, size a.s.settings a.f.now c.args.s.analysed r.result (search zneeds) r.ensures.value, count_le a.s.settings a.f.now c.args.s.analysed r.result (search zneeds) r.ensures.value)
 
 pub slice_bounds-second_stage-end : goal.slice_bounds-second_stage-end
 slice_bounds-second_stage-end c =
     let a = c.args in
     let r = c.search_stage1-first in
     sym (length-take-le r.result.count r.result.lags
-    (omega (arith, size a.s a.f.now c.requires.0 r.result (search zneeds) r.ensures.value, count_le a.s a.f.now c.requires.0 r.result (search zneeds) r.ensures.value)))
+    (omega (arith, size a.s.settings a.f.now c.args.s.analysed r.result (search zneeds) r.ensures.value, count_le a.s.settings a.f.now c.args.s.analysed r.result (search zneeds) r.ensures.value)))
 
 pub second_stage-requires : goal.second_stage-requires
 second_stage-requires c =
     let a = c.args in
     let p = c.requires in
     let r = c.search_stage1-first in
-    (p.0, (p.1.0, (p.1.1.0, subst Kept (sym (front a.s a.f.now p.0 r.result (search zneeds) r.ensures.value c.in-Goes.is)) (lags_kept a.s a.f.now p.0))))
+    record { frame = p.frame; eight = p.eight; kept = subst Kept (sym (front a.s.settings a.f.now a.s.analysed r.result (search zneeds) r.ensures.value c.in-Goes.is)) (lags_kept a.s.settings a.f.now a.s.analysed) }
 
 pub returns-in-ZeroDivisor : goal.returns-in-ZeroDivisor
 returns-in-ZeroDivisor c =
     let a = c.args in
     let r = c.search_stage1-first in
-    by a.s a.f.now c.requires.0 r.result (search zneeds) r.ensures.value a.w.now a.e.now a.prev_lag a.prev_corr _ c.in-ZeroDivisor.is
+    by a.s.settings a.f.now c.args.s.analysed r.result (search zneeds) r.ensures.value a.w.now a.e.now a.prev_lag a.prev_corr _ c.in-ZeroDivisor.is
 
 pub returns-in-Unvoiced : goal.returns-in-Unvoiced
 returns-in-Unvoiced c =
     let a = c.args in
     let r = c.search_stage1-first in
-    by a.s a.f.now c.requires.0 r.result (search zneeds) r.ensures.value a.w.now a.e.now a.prev_lag a.prev_corr _ c.in-Unvoiced.is
+    by a.s.settings a.f.now c.args.s.analysed r.result (search zneeds) r.ensures.value a.w.now a.e.now a.prev_lag a.prev_corr _ c.in-Unvoiced.is
 
 pub returns-in-Goes : goal.returns-in-Goes
 unfolding second_stage
 returns-in-Goes c =
     let a = c.args in
     let r = c.search_stage1-first in
-    let e = front a.s a.f.now c.requires.0 r.result (search zneeds) r.ensures.value c.in-Goes.is in
+    let e = front a.s.settings a.f.now c.args.s.analysed r.result (search zneeds) r.ensures.value c.in-Goes.is in
     c.second_stage.ensures
-    ∙ (λ i. from_winner a.s a.w.now (stage2 a.e.now (e i) a.s.rate a.s.nb a.s.complexity a.s.thres2 ((r_var c.ranges.prev_lag).val i) ((r_var c.ranges.prev_corr).val i)))
-    ∙ by a.s a.f.now c.requires.0 r.result (search zneeds) r.ensures.value a.w.now a.e.now a.prev_lag a.prev_corr _ c.in-Goes.is
+    ∙ (λ i. from_winner a.s.settings a.w.now (stage2 a.e.now (e i) a.s.settings.rate a.s.settings.nb a.s.settings.complexity a.s.settings.thres2 ((r_var c.ranges.prev_lag).val i) ((r_var c.ranges.prev_corr).val i)))
+    ∙ by a.s.settings a.f.now c.args.s.analysed r.result (search zneeds) r.ensures.value a.w.now a.e.now a.prev_lag a.prev_corr _ c.in-Goes.is
