@@ -1,9 +1,8 @@
 -- `zint::bits_u32` meets its contract: the bits of a number are its remainder by 2^32.
-use Rattle.std.proofs.Common.{ap, ◌∙◌, of_z}
-use Rattle.std.proofs.lemmas.Int.{to_z-of_z}
+use Rattle.std.proofs.Common.{◌∙◌}
 use Rattle.std.specs.Int.{w32}
-use Rattle.zint.specs.WrapLaws.{of_z_mod}
+use Rattle.zint.specs.WrapLaws.{read_mod}
 use Rattle.zint.proofs.bits_u32.Goals as goal
 
 pub returns : goal.returns
-returns c = c.cast_unsigned.ensures ∙ ap (of_z w32) (to_z-of_z w32 c.args.a c.ranges.a) ∙ of_z_mod w32 c.args.a c.ranges.a
+returns c = c.cast_unsigned.ensures ∙ read_mod w32 c.args.a c.ranges.a
