@@ -10,7 +10,7 @@ use Rattle.lists.specs.Fill.{overwritten}
 use Rattle.pitch_settings.specs.declared.Settings.{Settings}
 use Rattle.pitch_settings.specs.Settings.{settings_no, frame_length}
 use Rattle.pitch_settings.specs.SettingsLaws.{accepted_settings}
-use Rattle.silk_resampler.specs.declared.Filter.{Filter}
+use Rattle.silk_resampler.specs.declared.filter.Filter.{Filter}
 use Rattle.silk_resampler.specs.Down23.{source_filter}
 use Rattle.frame_signals.specs.Signals.{down_to_8khz, down_to_4khz}
 use Rattle.frame_signals.specs.SignalLaws.{take_overwritten}
@@ -54,10 +54,9 @@ overflow_mul-n4-2 c = omega (arith, (accepted_settings _ c.requires.0).nb_high)
 pub frame_8khz-requires : goal.frame_8khz-requires
 frame_8khz-requires c =
     let a = c.args in
-    let f = c.source_filter.ensures in
     let l : length (down_to_8khz c.source_filter.result a.s.rate a.w.now) ≡ (20 + 5 * a.s.nb) * 8 =
-    ap (λ (F : Filter). length (down_to_8khz F a.s.rate a.w.now)) f.0 ∙ eight_length a.s a.w.now c.requires.0 c.requires.1 in
-    (omega (arith, l, (accepted_settings _ c.requires.0).nb_high), (at_12 a.s a.w.now c.requires.0 c.requires.1, f.1))
+    ap (λ (F : Filter). length (down_to_8khz F a.s.rate a.w.now)) c.source_filter.ensures ∙ eight_length a.s a.w.now c.requires.0 c.requires.1 in
+    (omega (arith, l, (accepted_settings _ c.requires.0).nb_high), at_12 a.s a.w.now c.requires.0 c.requires.1)
 
 pub slice_bounds-buf_8khz-end : goal.slice_bounds-buf_8khz-end
 slice_bounds-buf_8khz-end c = omega (arith, c.frame_8khz.auto.out, (accepted_settings _ c.requires.0).nb_high)
@@ -65,7 +64,7 @@ slice_bounds-buf_8khz-end c = omega (arith, c.frame_8khz.auto.out, (accepted_set
 pub slice_bounds-frame_4khz-end : goal.slice_bounds-frame_4khz-end
 slice_bounds-frame_4khz-end c =
     let a = c.args in
-    sym (ap length (eight_front a.s a.w.now c.requires.0 c.requires.1 c.source_filter.ensures.0 c.frame_8khz.ensures) ∙ eight_length a.s a.w.now c.requires.0 c.requires.1)
+    sym (ap length (eight_front a.s a.w.now c.requires.0 c.requires.1 c.source_filter.ensures c.frame_8khz.ensures) ∙ eight_length a.s a.w.now c.requires.0 c.requires.1)
 
 pub slice_bounds-buf_8khz-end-2 : goal.slice_bounds-buf_8khz-end-2
 slice_bounds-buf_8khz-end-2 c = omega (arith, c.frame_8khz.auto.out, (accepted_settings _ c.requires.0).nb_high)
@@ -73,7 +72,7 @@ slice_bounds-buf_8khz-end-2 c = omega (arith, c.frame_8khz.auto.out, (accepted_s
 pub slice_bounds-stages-end : goal.slice_bounds-stages-end
 slice_bounds-stages-end c =
     let a = c.args in
-    sym (ap length (eight_front a.s a.w.now c.requires.0 c.requires.1 c.source_filter.ensures.0 c.frame_8khz.ensures) ∙ eight_length a.s a.w.now c.requires.0 c.requires.1)
+    sym (ap length (eight_front a.s a.w.now c.requires.0 c.requires.1 c.source_filter.ensures c.frame_8khz.ensures) ∙ eight_length a.s a.w.now c.requires.0 c.requires.1)
 
 pub slice_bounds-buf_4khz-end : goal.slice_bounds-buf_4khz-end
 slice_bounds-buf_4khz-end c = omega (arith, c.frame_4khz.auto.out, (accepted_settings _ c.requires.0).nb_high)
@@ -81,12 +80,12 @@ slice_bounds-buf_4khz-end c = omega (arith, c.frame_4khz.auto.out, (accepted_set
 pub slice_bounds-stages-end-2 : goal.slice_bounds-stages-end-2
 slice_bounds-stages-end-2 c =
     let a = c.args in
-    sym (ap length (four_front a.s a.w.now c.requires.0 c.requires.1 (eight_front a.s a.w.now c.requires.0 c.requires.1 c.source_filter.ensures.0 c.frame_8khz.ensures) c.frame_4khz.ensures) ∙ four_length a.s a.w.now c.requires.0 c.requires.1)
+    sym (ap length (four_front a.s a.w.now c.requires.0 c.requires.1 (eight_front a.s a.w.now c.requires.0 c.requires.1 c.source_filter.ensures c.frame_8khz.ensures) c.frame_4khz.ensures) ∙ four_length a.s a.w.now c.requires.0 c.requires.1)
 
 pub stages-requires : goal.stages-requires
 stages-requires c =
     let a = c.args in
-    let e = eight_front a.s a.w.now c.requires.0 c.requires.1 c.source_filter.ensures.0 c.frame_8khz.ensures in
+    let e = eight_front a.s a.w.now c.requires.0 c.requires.1 c.source_filter.ensures c.frame_8khz.ensures in
     let f = four_front a.s a.w.now c.requires.0 c.requires.1 e c.frame_4khz.ensures in
     (c.requires.0, (c.requires.1, (ap length e ∙ eight_length a.s a.w.now c.requires.0 c.requires.1, ap length f ∙ four_length a.s a.w.now c.requires.0 c.requires.1)))
 
@@ -94,7 +93,7 @@ pub returns : goal.returns
 unfolding staged
 returns c =
     let a = c.args in
-    let e = eight_front a.s a.w.now c.requires.0 c.requires.1 c.source_filter.ensures.0 c.frame_8khz.ensures in
+    let e = eight_front a.s a.w.now c.requires.0 c.requires.1 c.source_filter.ensures c.frame_8khz.ensures in
     let f = four_front a.s a.w.now c.requires.0 c.requires.1 e c.frame_4khz.ensures in
     let run : List ℤ → List ℤ → ℤ → ℤ → Verdict = λ x y pl pc. from_screen a.s a.w.now x y pl pc (stage1 y a.s.nb a.s.complexity a.s.thres1).screen in
     c.stages.ensures ∙ (λ i. run (e i) (f i) ((r_var c.ranges.prev_lag).val i) ((r_var c.ranges.prev_corr).val i))
