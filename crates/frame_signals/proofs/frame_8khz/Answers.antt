@@ -1,7 +1,7 @@
 -- `frame_signals::frame_8khz` meets its contract: each way fills the buffer with the signal of its rate.
 use mathlib.Core.Path.{◌≡◌, sym, ap, ◌∙◌}
 use mathlib.Core.List.{List, ◌++◌}
-use Prim.Native.Nat.{◌≤◌}
+use Prim.Native.Nat.{ℕ, ◌≤◌}
 use native.Mathlib.Omega.{arith}
 use lib.IntN.{ℤ}
 use lib.ListN.{length, drop}
@@ -9,6 +9,8 @@ use lib.Seq.{length-take-le}
 use Rattle.lists.specs.Fill.{overwritten}
 use Rattle.silk_resampler.specs.Down2Laws.{down2_length}
 use Rattle.silk_resampler.specs.Down23Laws.{down2_3-length}
+use Rattle.silk_resampler.specs.declared.filter.Filter.{Filter}
+use Rattle.frame_signals.specs.Signals.{down_to_8khz}
 use Rattle.frame_signals.specs.SignalLaws.{eight_16, eight_12, eight_8}
 use Rattle.frame_signals.proofs.frame_8khz.Goals as goal
 
@@ -24,17 +26,17 @@ two_thirds_into-requires c =
     (omega (arith, c.requires.0, ap length (eight_12 c.args.filter c.args.fs_khz w h), down2_3-length c.args.filter w), c.requires.1 h)
 
 -- at 8 kHz the buffer has room for the frame itself
-whole_fits : (c : goal.Else-fs_khz-eq12) → length c.args.frame.now ≤ length c.args.out.now
-whole_fits c = omega (arith, c.requires.0, ap length (eight_8 c.args.filter c.args.fs_khz c.args.frame.now c.if-fs_khz-eq16.false c.if-fs_khz-eq12.false))
+room : (F : Filter) (fs : ℕ) (x out : List ℤ) → length (down_to_8khz F fs x) ≤ length out → (fs ≡ 16 → ⊥) → (fs ≡ 12 → ⊥) → length x ≤ length out
+room F fs x out h g k = omega (arith, h, ap length (eight_8 F fs x g k))
 
 pub slice_bounds-copy_from_slice-end : goal.slice_bounds-copy_from_slice-end
-slice_bounds-copy_from_slice-end c = whole_fits c
+slice_bounds-copy_from_slice-end c = room c.args.filter _ c.args.frame.now _ c.requires.0 c.if-fs_khz-eq16.false c.if-fs_khz-eq12.false
 
 pub slice_bounds-copy_from_slice-end-else-fs_khz-eq12 : goal.slice_bounds-copy_from_slice-end-else-fs_khz-eq12
-slice_bounds-copy_from_slice-end-else-fs_khz-eq12 c = sym (length-take-le _ _ (whole_fits c.before))
+slice_bounds-copy_from_slice-end-else-fs_khz-eq12 c = sym (length-take-le _ _ (room c.args.filter _ c.args.frame.now _ c.requires.0 c.if-fs_khz-eq16.false c.if-fs_khz-eq12.false))
 
 pub copy_from_slice-requires : goal.copy_from_slice-requires
-copy_from_slice-requires c = length-take-le _ _ (whole_fits c.before)
+copy_from_slice-requires c = length-take-le _ _ (room c.args.filter _ c.args.frame.now _ c.requires.0 c.if-fs_khz-eq16.false c.if-fs_khz-eq12.false)
 
 -- a buffer that holds e, by the signal that it is at its rate
 held : (old : List ℤ) {signal e out : List ℤ} → out ≡ overwritten e old → signal ≡ e → out ≡ overwritten signal old
