@@ -1,7 +1,7 @@
 -- Laws of lists whose first places are given by a rule, which is what a loop that stores one element a turn leaves.
 use Rattle.std.specs.Prelude.{◌≡◌, take, set}
 use Rattle.std.proofs.Math.Path.{refl, sym, ap, ap₂}
-use Rattle.std.proofs.Common.{◌∙◌, add-one, length-drop, drop_of_length-le, take_all, ext_get_or}
+use Rattle.std.proofs.Common.{◌∙◌, add-one, length-drop, length-take-le, get_or-take, drop_of_length-le, take_all, ext_get_or}
 use mathlib.Core.List.{List, [], ◌∷◌, ◌++◌, append-nil}
 use Prim.Native.Nat.{ℕ, zero, suc, ◌+◌, ◌-◌, ◌<◌, ◌≤◌}
 use native.Mathlib.Omega.{arith}
@@ -71,6 +71,12 @@ module _ {A : Type 0} where
   pub tabulate_is : (f : ℕ → A) (n : ℕ) (l : List A) (d : A) → n ≡ length l → ((k : ℕ) → k < n → f k ≡ get_or l k d) → tabulate f n ≡ l
   tabulate_is f n l d e h =
       ext_get_or d (tabulate f n) l (length_tabulate f n ∙ e) (λ k m. let b : k < n = omega (arith, length_tabulate f n) in get_d_tabulate f n k d b ∙ h k b)
+
+  -- the first n elements of another list, copied
+  pub filled_copied : (xs l : List A) (n : ℕ) (d : A) → n ≤ length xs → take n xs ++ drop n l ≡ filled (λ (k : ℕ). get_or xs k d) n l
+  unfolding filled
+  filled_copied xs l n d h =
+      ap (λ (t : List A). t ++ drop n l) (sym (tabulate_is (λ (k : ℕ). get_or xs k d) n (take n xs) d (sym (length-take-le n xs h)) (λ k b. sym (get_or-take n xs k d b))))
 
   -- one turn of a loop that stores v at n
   pub filled_turn : (f : ℕ → A) (n : ℕ) (l : List A) {out : List A} {v : A} → out ≡ filled f n l → v ≡ f n → n < length l → set out n v ≡ filled f (n + 1) l

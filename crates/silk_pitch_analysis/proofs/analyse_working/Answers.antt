@@ -54,10 +54,9 @@ overflow_mul-n4-2 c = omega (arith, (accepted_settings _ c.args.s.analysed).nb_h
 pub frame_8khz-requires : goal.frame_8khz-requires
 frame_8khz-requires c =
     let a = c.args in
-    let f = c.source_filter.ensures in
     let l : length (down_to_8khz c.source_filter.result a.s.settings.rate a.w.now) ≡ (20 + 5 * a.s.settings.nb) * 8 =
-    ap (λ (F : Filter). length (down_to_8khz F a.s.settings.rate a.w.now)) f.0 ∙ eight_length a.s.settings a.w.now c.args.s.analysed c.requires in
-    (omega (arith, l, (accepted_settings _ c.args.s.analysed).nb_high), (at_12 a.s.settings a.w.now c.args.s.analysed c.requires, f.1))
+    ap (λ (F : Filter). length (down_to_8khz F a.s.settings.rate a.w.now)) c.source_filter.ensures ∙ eight_length a.s.settings a.w.now c.args.s.analysed c.requires in
+    (omega (arith, l, (accepted_settings _ c.args.s.analysed).nb_high), at_12 a.s.settings a.w.now c.args.s.analysed c.requires)
 
 pub slice_bounds-buf_8khz-end : goal.slice_bounds-buf_8khz-end
 slice_bounds-buf_8khz-end c = omega (arith, c.frame_8khz.auto.out, (accepted_settings _ c.args.s.analysed).nb_high)
@@ -65,7 +64,7 @@ slice_bounds-buf_8khz-end c = omega (arith, c.frame_8khz.auto.out, (accepted_set
 pub slice_bounds-frame_4khz-end : goal.slice_bounds-frame_4khz-end
 slice_bounds-frame_4khz-end c =
     let a = c.args in
-    sym (ap length (eight_front a.s.settings a.w.now c.args.s.analysed c.requires c.source_filter.ensures.0 c.frame_8khz.ensures) ∙ eight_length a.s.settings a.w.now c.args.s.analysed c.requires)
+    sym (ap length (eight_front a.s.settings a.w.now c.args.s.analysed c.requires c.source_filter.ensures c.frame_8khz.ensures) ∙ eight_length a.s.settings a.w.now c.args.s.analysed c.requires)
 
 pub slice_bounds-buf_8khz-end-2 : goal.slice_bounds-buf_8khz-end-2
 slice_bounds-buf_8khz-end-2 c = omega (arith, c.frame_8khz.auto.out, (accepted_settings _ c.args.s.analysed).nb_high)
@@ -73,7 +72,7 @@ slice_bounds-buf_8khz-end-2 c = omega (arith, c.frame_8khz.auto.out, (accepted_s
 pub slice_bounds-stages-end : goal.slice_bounds-stages-end
 slice_bounds-stages-end c =
     let a = c.args in
-    sym (ap length (eight_front a.s.settings a.w.now c.args.s.analysed c.requires c.source_filter.ensures.0 c.frame_8khz.ensures) ∙ eight_length a.s.settings a.w.now c.args.s.analysed c.requires)
+    sym (ap length (eight_front a.s.settings a.w.now c.args.s.analysed c.requires c.source_filter.ensures c.frame_8khz.ensures) ∙ eight_length a.s.settings a.w.now c.args.s.analysed c.requires)
 
 pub slice_bounds-buf_4khz-end : goal.slice_bounds-buf_4khz-end
 slice_bounds-buf_4khz-end c = omega (arith, c.frame_4khz.auto.out, (accepted_settings _ c.args.s.analysed).nb_high)
@@ -81,12 +80,12 @@ slice_bounds-buf_4khz-end c = omega (arith, c.frame_4khz.auto.out, (accepted_set
 pub slice_bounds-stages-end-2 : goal.slice_bounds-stages-end-2
 slice_bounds-stages-end-2 c =
     let a = c.args in
-    sym (ap length (four_front a.s.settings a.w.now c.args.s.analysed c.requires (eight_front a.s.settings a.w.now c.args.s.analysed c.requires c.source_filter.ensures.0 c.frame_8khz.ensures) c.frame_4khz.ensures) ∙ four_length a.s.settings a.w.now c.args.s.analysed c.requires)
+    sym (ap length (four_front a.s.settings a.w.now c.args.s.analysed c.requires (eight_front a.s.settings a.w.now c.args.s.analysed c.requires c.source_filter.ensures c.frame_8khz.ensures) c.frame_4khz.ensures) ∙ four_length a.s.settings a.w.now c.args.s.analysed c.requires)
 
 pub stages-requires : goal.stages-requires
 stages-requires c =
     let a = c.args in
-    let e = eight_front a.s.settings a.w.now c.args.s.analysed c.requires c.source_filter.ensures.0 c.frame_8khz.ensures in
+    let e = eight_front a.s.settings a.w.now c.args.s.analysed c.requires c.source_filter.ensures c.frame_8khz.ensures in
     let f = four_front a.s.settings a.w.now c.args.s.analysed c.requires e c.frame_4khz.ensures in
     record { frame = c.requires; eight = ap length e ∙ eight_length a.s.settings a.w.now c.args.s.analysed c.requires; four = ap length f ∙ four_length a.s.settings a.w.now c.args.s.analysed c.requires }
 
@@ -94,7 +93,7 @@ pub returns : goal.returns
 unfolding staged
 returns c =
     let a = c.args in
-    let e = eight_front a.s.settings a.w.now c.args.s.analysed c.requires c.source_filter.ensures.0 c.frame_8khz.ensures in
+    let e = eight_front a.s.settings a.w.now c.args.s.analysed c.requires c.source_filter.ensures c.frame_8khz.ensures in
     let f = four_front a.s.settings a.w.now c.args.s.analysed c.requires e c.frame_4khz.ensures in
     let run : List ℤ → List ℤ → ℤ → ℤ → Verdict = λ x y pl pc. from_screen a.s.settings a.w.now x y pl pc (stage1 y a.s.settings.nb a.s.settings.complexity a.s.settings.thres1).screen in
     c.stages.ensures ∙ (λ i. run (e i) (f i) ((r_var c.ranges.prev_lag).val i) ((r_var c.ranges.prev_corr).val i))
