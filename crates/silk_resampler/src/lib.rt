@@ -163,7 +163,7 @@ fn odd_output(buf: &[i32], m: usize, filter: Filter) -> i16
     weighted_output(buf, 3 * m + 1, c[4], c[5], c[3], c[2], filter.round_odd)
 }
 
-// Two outputs for every three values of buf, n times.
+// Two outputs for every three values of buf, n times. By places and not by chunks: the outputs of three values read two values of the next three as well.
 fn decimate(out: &mut [i16], buf: &[i32], n: usize, filter: Filter)
     requires { (2 * n ≤ length out.old) × (3 * n + 2 ≤ length buf.now) }
     ensures { out.new ≡ filled (decimated filter (sample buf.now)) (2 * n) out.old }

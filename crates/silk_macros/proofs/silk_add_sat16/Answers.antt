@@ -1,9 +1,29 @@
--- `silk_macros::silk_add_sat16` meets its contract: std's saturating sum, in the words of `sat`.
-use Rattle.std.proofs.Common.{ap, ◌∙◌}
-use Rattle.std.specs.Int.{w16, saturate_signed}
-use Rattle.zint.specs.ClampLaws.{sat_of_std}
-use Rattle.zint.specs.ReadLaws.{r_var, r_got, eq_add}
+-- `silk_macros::silk_add_sat16` meets its contract.
+use mir.Syntax.{w16, w32}
+use Rattle.zint.specs.BoundLaws.{add_32}
+use Rattle.zint.specs.Clamp.{sat}
+use Rattle.zint.specs.ClampLaws.{sat_fits}
+use Rattle.zint.specs.ReadLaws.{r_add, r_call1, r_cast, f_cast, r_got, wide_32}
+use Rattle.zint.specs.RuleLaws.{zneeds}
 use Rattle.silk_macros.proofs.silk_add_sat16.Goals as goal
 
+pub overflow_cast-result : goal.overflow_cast-result
+overflow_cast-result c = f_cast (r_got w32 c.silk_sat16.type_inv c.silk_sat16.ensures) (sat_fits w16 _)
+
 pub returns : goal.returns
-returns c = (r_got w16 c.saturating_add.type_inv (c.saturating_add.ensures ∙ ap (saturate_signed w16) (eq_add _ _ _ _ (r_var c.ranges.a).val (r_var c.ranges.b).val) ∙ sat_of_std w16 _)).val
+returns c =
+    let f = c.ranges in
+    let s = r_add (wide_32 f.a) (wide_32 f.b) (add_32 f.a f.b) in
+    (r_cast (r_call1 w32 (sat w16) c.silk_sat16.type_inv s c.silk_sat16.ensures) (sat_fits w16 _)).val
+
+pub overflow_cast-a : goal.overflow_cast-a
+overflow_cast-a c = search zneeds
+
+pub overflow_cast-b : goal.overflow_cast-b
+overflow_cast-b c = search zneeds
+
+pub overflow_add-a : goal.overflow_add-a
+overflow_add-a c = search zneeds
+
+pub silk_sat16-requires : goal.silk_sat16-requires
+silk_sat16-requires c = search zneeds
