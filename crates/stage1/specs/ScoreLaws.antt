@@ -1,5 +1,5 @@
 -- Laws of stage 1's correlations and scores.
-use Rattle.std.specs.Prelude.{◌≡◌, refl, Bool, true, ◌⊎◌, ℕ, suc, ◌+◌, ◌-◌, ◌*◌, ◌/◌, ◌≤◌, ◌<◌, ℤ, pos, negsuc, nat_abs, ◌-ℤ◌, ◌*ℤ◌, length, drop, replicate}
+use Rattle.std.specs.Prelude.{Option, Some, None, ◌≡◌, refl, Bool, true, ◌⊎◌, ℕ, suc, ◌+◌, ◌-◌, ◌*◌, ◌/◌, ◌≤◌, ◌<◌, ℤ, pos, negsuc, nat_abs, ◌-ℤ◌, ◌*ℤ◌, length, drop, replicate}
 use Rattle.std.proofs.Math.Path.{sym, ap, ap₂}
 use Rattle.std.proofs.Common.{◌∙◌, true≢false, ⊎_elim, lit<, lit≤, drop-drop, SFits}
 use Rattle.std.proofs.Math.Bool.{false, cond}
@@ -24,8 +24,6 @@ use Rattle.silk_sigproc.specs.Dot.{dot}
 use Rattle.silk_sigproc.specs.DotLaws.{dot_slide}
 use Rattle.silk_macros.specs.Macros.{smulbb}
 use Rattle.silk_macros.specs.Divide.{quotient, by_zero, low16_of}
-use Rattle.silk_macros.specs.declared.Quotient.{Quotient}
-use Rattle.silk_macros.specs.declared.Quotient.TheVariants.{Value, ZeroDivisor as ByZero}
 use Rattle.stage1.specs.Stage1.{target1, cross_sum1, target_energy1, basis_energy1, divisor_sum1, cross1, divisor1, quotient1, divisors1, half_no, lag_no1, zero1, corr1, sum1, biased1, score1}
 use Rattle.stage1.specs.Steps.{quotient_at, Divided, zero_in, HalfFrame, Scored}
 
@@ -92,7 +90,7 @@ squares_differ {x} {y} f g =
 -- ---- quotients
 
 -- a quotient that has a value
-pub value_low : {q : Quotient} {z : ℤ} → q ≡ Value z → (by_zero q ≡ false) × (low16_of q ≡ wrap w16 z)
+pub value_low : {q : Option ℤ} {z : ℤ} → q ≡ Some z → (by_zero q ≡ false) × (low16_of q ≡ wrap w16 z)
 value_low e = (ap by_zero e, ap low16_of e)
 
 -- no divisor is zero, and the array is filled
@@ -100,7 +98,7 @@ pub no_divisor_zero : (xs ns c₀ c : List ℤ) → ((i : ℕ) → i < 65 → by
 no_divisor_zero xs ns c₀ c h e = record { zero_is = sym (some_false 65 _ h); array_is = λ z. e }
 
 -- a divisor is zero
-pub a_divisor_zero : (xs ns c₀ c : List ℤ) (i : ℕ) → i < 65 → quotient_at xs ns i ≡ ByZero → Divided xs ns c₀ c true
+pub a_divisor_zero : (xs ns c₀ c : List ℤ) (i : ℕ) → i < 65 → quotient_at xs ns i ≡ None → Divided xs ns c₀ c true
 a_divisor_zero xs ns c₀ c i l e = record { zero_is = sym (some_true 65 _ i l (ap by_zero e)); array_is = λ z. absurd (true≢false z) }
 
 -- the arrays of a half-frame hold what its quotients are taken of

@@ -1,7 +1,7 @@
 -- Stage 1 of the pitch analyser: which lags at 4 kHz go on to stage 2 (docs/SCOPE.md, Stages; pitch_analysis.rs, lines 201 to 290).
 -- f is the frame's 4 kHz signal, nb the subframe count, cx the complexity, thres1 the first threshold. A best is named by comparison (`best`, `silk_sort`): no search runs here.
 -- Definitions only.
-use Rattle.std.specs.Prelude.{◌≡◌, Bool, cond, List, [], ◌∷◌, ◌⊎◌, ℕ, ◌+◌, ◌-◌, ◌*◌, ◌/◌, ◌%◌, ◌≤◌, ◌<◌, eqb, ℤ, pos, ◌+ℤ◌, ◌-ℤ◌, ◌*ℤ◌, length, drop, replicate}
+use Rattle.std.specs.Prelude.{Option, ◌≡◌, Bool, cond, List, [], ◌∷◌, ◌⊎◌, ℕ, ◌+◌, ◌-◌, ◌*◌, ◌/◌, ◌%◌, ◌≤◌, ◌<◌, eqb, ℤ, pos, ◌+ℤ◌, ◌-ℤ◌, ◌*ℤ◌, length, drop, replicate}
 use Rattle.std.specs.Int.Signed.{lt_z, le_z}
 use Rattle.std.specs.Int.{w16, w32}
 use Rattle.zint.specs.Wrap.{wrap}
@@ -10,7 +10,6 @@ use Rattle.lists.specs.Fill.{tabulate, filled}
 use Rattle.best.specs.Best.{some, Place, none, at, first_from}
 use Rattle.silk_macros.specs.Macros.{smulwb, smlawb}
 use Rattle.silk_macros.specs.Divide.{quotient, by_zero, low16_of}
-use Rattle.silk_macros.specs.declared.Quotient.{Quotient}
 use Rattle.silk_sigproc.specs.Dot.{dot, energy_sum}
 use Rattle.silk_sort.specs.Rank.{ranked}
 use Rattle.stage1.specs.declared.Screen.{Screen}
@@ -49,7 +48,7 @@ unfoldable pub divisor1 : List ℤ → ℕ → ℕ → ℤ
 divisor1 f h d = wrap w32 (divisor_sum1 f h d)
 
 -- the quotient at Q14, or a zero divisor
-unfoldable pub quotient1 : List ℤ → ℕ → ℕ → Quotient
+unfoldable pub quotient1 : List ℤ → ℕ → ℕ → Option ℤ
 quotient1 f h d = quotient (cross1 f h d) (divisor1 f h d) (pos 14)
 
 -- ---- the divisors by number, in the source's order: half-frames, and in each the lags 8 to 72 rising. All of them are reached

@@ -1,12 +1,11 @@
 -- What the functions of stage 1 say to one another. Nothing here is part of what stage 1 means. Definitions only; the laws are in `ScoreLaws` and `KeptLaws`.
-use Rattle.std.specs.Prelude.{◌≡◌, Bool, false, cond, List, ℕ, ◌+◌, ◌-◌, ℤ, pos, get_or, replicate}
+use Rattle.std.specs.Prelude.{Option, ◌≡◌, Bool, false, cond, List, ℕ, ◌+◌, ◌-◌, ℤ, pos, get_or, replicate}
 use Rattle.std.specs.Int.Signed.{lt_z, le_z}
 use Rattle.lists.specs.Signal.{sample}
 use Rattle.lists.specs.Fill.{filled}
 use Rattle.best.specs.Best.{some, first_from}
 use Rattle.silk_macros.specs.Macros.{smulwb}
 use Rattle.silk_macros.specs.Divide.{quotient, by_zero, low16_of}
-use Rattle.silk_macros.specs.declared.Quotient.{Quotient}
 use Rattle.stage1.specs.declared.Screen.TheVariants.{Unvoiced, Goes}
 use Rattle.stage1.specs.declared.Stage1.{Stage1}
 use Rattle.stage1.specs.Stage1.{quotient1, zero1, corr1, score1, place_or, stopped}
@@ -14,7 +13,7 @@ use Rattle.stage1.specs.Stage1.{quotient1, zero1, corr1, score1, place_or, stopp
 -- ---- the correlations: a loop that stops at a zero divisor has filled its array only where it has met none
 
 -- the quotient of the i-th lag, from cross-correlations counted from the last lag and divisors counted from the first
-abbrev pub quotient_at : List ℤ → List ℤ → ℕ → Quotient
+abbrev pub quotient_at : List ℤ → List ℤ → ℕ → Option ℤ
 quotient_at xs ns i = quotient (sample xs (64 - i)) (sample ns i) (pos 14)
 
 pub record Divided (xs ns c₀ c : List ℤ) (zero : Bool) : Type 0 where

@@ -12,7 +12,7 @@ ghost use Rattle.lists.specs.Fill.{tabulate, filled};
 ghost use Rattle.stage1.specs.Stage1.{cross1, divisor1, biased1, search_length, stopped, stage1, screen_numbers, screen_number, Handed1};
 ghost use Rattle.stage1.specs.Steps.{Divided, HalfFrame, Scored, count_above, selected};
 
-use silk_macros::{Quotient, silk_div32_varq, silk_smlawb, silk_smulbb, silk_smulwb};
+use silk_macros::{silk_div32_varq, silk_smlawb, silk_smulbb, silk_smulwb};
 use silk_sigproc::{energy_of_40, silk_pitch_xcorr, square};
 use silk_sort::silk_insertion_sort_decreasing_int16;
 use zint::{as_i16, wrapping_add_i32};
@@ -112,7 +112,7 @@ fn quotients(xcorr32: &[i32], normalizers: &[i32], c: &mut [i16]) -> bool
 {
     for i in 0..CSTRIDE_4KHZ {
         let cross_corr = xcorr32[MAX_LAG_4KHZ - MIN_LAG_4KHZ - i];
-        let Quotient::Value(q) = silk_div32_varq(cross_corr, normalizers[i], 14) else {
+        let Some(q) = silk_div32_varq(cross_corr, normalizers[i], 14) else {
             return true;
         };
         c[i] = as_i16(q);

@@ -1,5 +1,5 @@
 -- Laws of a subframe's row: a ratio way by way, the divisor from running energies, one lag more, and the row at the marks of the kept lags.
-use Rattle.std.specs.Prelude.{◌≡◌, refl, Bool, true, false, ◌&&◌, ◌||◌, cond, List, ℕ, ◌+◌, ◌-◌, ◌<◌, ◌≤◌, ℤ, pos, nat_abs, ◌+ℤ◌, ◌-ℤ◌, ◌*ℤ◌, get_or, drop}
+use Rattle.std.specs.Prelude.{Option, Some, None, ◌≡◌, refl, Bool, true, false, ◌&&◌, ◌||◌, cond, List, ℕ, ◌+◌, ◌-◌, ◌<◌, ◌≤◌, ℤ, pos, nat_abs, ◌+ℤ◌, ◌-ℤ◌, ◌*ℤ◌, get_or, drop}
 use Rattle.std.proofs.Math.Path.{sym}
 use Rattle.std.proofs.Common.{ap, ap₂, ◌∙◌, add-one, arith, lit<}
 use Rattle.std.proofs.Math.Bool.{or-true, or-false}
@@ -16,8 +16,6 @@ use Rattle.best.specs.Best.{some}
 use Rattle.best.specs.BestLaws.{some_ext}
 use Rattle.best.specs.PairLaws.{some_pairs}
 use Rattle.silk_macros.specs.Divide.{quotient, low16_of, by_zero}
-use Rattle.silk_macros.specs.declared.Quotient.{Quotient}
-use Rattle.silk_macros.specs.declared.Quotient.TheVariants.{Value, ZeroDivisor}
 use Rattle.silk_sigproc.specs.Dot.{dot, energy_sum}
 use Rattle.silk_sigproc.specs.DotLaws.{dot_slide}
 use Rattle.stage2_correlations.specs.Marks.{near, marked, measured}
@@ -32,11 +30,11 @@ module _ (x n : ℤ) where
   unfolding ratio_of
   ratio_none h = sym (ap (λ (t : Bool). reached_ratio t (quotient x n (pos 14))) h)
 
-  pub ratio_value : (q : ℤ) → lt_z (pos 0) x ≡ true → quotient x n (pos 14) ≡ Value q → record { zero = false; value = wrap w16 q } ≡ ratio_of x n
+  pub ratio_value : (q : ℤ) → lt_z (pos 0) x ≡ true → quotient x n (pos 14) ≡ Some q → record { zero = false; value = wrap w16 q } ≡ ratio_of x n
   unfolding ratio_of
   ratio_value q h e = sym (ap₂ reached_ratio h e)
 
-  pub ratio_zero : lt_z (pos 0) x ≡ true → quotient x n (pos 14) ≡ ZeroDivisor → record { zero = true; value = pos 0 } ≡ ratio_of x n
+  pub ratio_zero : lt_z (pos 0) x ≡ true → quotient x n (pos 14) ≡ None → record { zero = true; value = pos 0 } ≡ ratio_of x n
   unfolding ratio_of
   ratio_zero h e = sym (ap₂ reached_ratio h e)
 
@@ -95,9 +93,9 @@ subframe_row_kept e kept k =
 
 -- ---- a correlation has 16 bits
 
-low16_small : (a : Quotient) → nat_abs (low16_of a) ≤ 32768
-low16_small (Value q) = fits_abs (wrap_fits w16 q)
-low16_small ZeroDivisor = omega arith
+low16_small : (a : Option ℤ) → nat_abs (low16_of a) ≤ 32768
+low16_small (Some q) = fits_abs (wrap_fits w16 q)
+low16_small None = omega arith
 
 cond_small : (t : Bool) (z : ℤ) → nat_abs z ≤ 32768 → nat_abs (cond t z (pos 0)) ≤ 32768
 cond_small true z h = h

@@ -1,19 +1,18 @@
 -- What the functions of a subframe answer, over any marks: a ratio, a lag's correlation, and the row of the lags 14 to 145. Nothing here is part of what stage 2 means.
-use Rattle.std.specs.Prelude.{Bool, false, ◌&&◌, cond, List, ℕ, ◌+◌, ◌-◌, ℤ, pos, drop, get_or}
+use Rattle.std.specs.Prelude.{Option, Bool, false, ◌&&◌, cond, List, ℕ, ◌+◌, ◌-◌, ℤ, pos, drop, get_or}
 use Rattle.std.specs.Int.Signed.{lt_z}
 use Rattle.std.specs.Int.{w32}
 use Rattle.zint.specs.Wrap.{wrap}
 use Rattle.lists.specs.Fill.{tabulate}
 use Rattle.best.specs.Best.{some}
 use Rattle.silk_macros.specs.Divide.{quotient, by_zero, low16_of}
-use Rattle.silk_macros.specs.declared.Quotient.{Quotient}
 use Rattle.silk_sigproc.specs.Dot.{dot}
 use Rattle.stage2_correlations.specs.declared.Ratio.{Ratio}
 use Rattle.stage2_correlations.specs.declared.SubframeRow.{SubframeRow}
 use Rattle.stage2_correlations.specs.Correlations.{cross2, quotient2}
 
 -- a quotient where the test holds: its low 16 bits, and whether its divisor is zero
-abbrev pub reached_ratio : Bool → Quotient → Ratio
+abbrev pub reached_ratio : Bool → Option ℤ → Ratio
 reached_ratio t q = record { zero = t && by_zero q; value = cond t (low16_of q) (pos 0) }
 
 unfoldable pub ratio_of : ℤ → ℤ → Ratio

@@ -11,7 +11,7 @@ ghost use Rattle.stage2_correlations.specs.Marks.{near, marked, listed, measured
 ghost use Rattle.stage2_correlations.specs.Correlations.{target2};
 ghost use Rattle.stage2_correlations.specs.Rows.{ratio_of, at_lag, subframe_row};
 
-use silk_macros::{Quotient, silk_div32_varq};
+use silk_macros::silk_div32_varq;
 use silk_sigproc::{energy_of_40, silk_inner_prod_aligned, square};
 use silk_tables::{MAX_LAG_8KHZ, PE_MIN_LAG_MS};
 use zint::{as_i16, wrapping_add_i32, wrapping_sub_i32};
@@ -100,7 +100,7 @@ fn divide(cross_corr: i32, norm: i32) -> Ratio
     ensures { result ≡ ratio_of cross_corr norm }
 {
     if cross_corr > 0 {
-        let Quotient::Value(q) = silk_div32_varq(cross_corr, norm, 14) else {
+        let Some(q) = silk_div32_varq(cross_corr, norm, 14) else {
             return Ratio {
                 zero: true,
                 value: 0,

@@ -1,13 +1,11 @@
 -- The search from the front, as the code goes: what one pair more makes of it, and what is known after n pairs. The contracts of private functions cite it; nothing here is
 -- part of what stage 3 means.
-use Rattle.std.specs.Prelude.{◌≡◌, Bool, true, false, ◌&&◌, cond, List, [], ℕ, ◌-◌, ◌<◌, ◌≤◌, ℤ, pos, get_or}
+use Rattle.std.specs.Prelude.{Option, Some, None, ◌≡◌, Bool, true, false, ◌&&◌, cond, List, [], ℕ, ◌-◌, ◌<◌, ◌≤◌, ℤ, pos, get_or}
 use Rattle.std.specs.Int.Signed.{lt_z}
 use Rattle.zint.specs.Minus.{minus}
 use Rattle.silk_tables.specs.Tables.{TableSettings, in_use, least_lag, greatest_lag}
 use Rattle.best.specs.Best.{Place}
 use Rattle.best.proofs.BestOfLaws as laws
-use Rattle.silk_macros.specs.declared.Quotient.{Quotient}
-use Rattle.silk_macros.specs.declared.Quotient.TheVariants.{Value, ZeroDivisor as ByZero}
 use Rattle.stage3.specs.declared.Found.TheVariants.{Pair}
 use Rattle.stage3.specs.declared.BestSoFar.{BestSoFar}
 use Rattle.stage3.specs.declared.PairSearch.{PairSearch}
@@ -36,9 +34,9 @@ array_choice X E e by =
     }
 
 -- one pair more: the quotient is taken where the cross-correlation is positive
-abbrev pub with_quotient : BestSoFar → ℤ → ℕ → ℕ → Bool → Quotient → SearchState
-with_quotient b bias d j reach ByZero = Stopped
-with_quotient b bias d j reach (Value q) =
+abbrev pub with_quotient : BestSoFar → ℤ → ℕ → ℕ → Bool → Option ℤ → SearchState
+with_quotient b bias d j reach None = Stopped
+with_quotient b bias d j reach (Some q) =
     cond (reach && lt_z b.top (biased q bias j)) (Going (record { top = biased q bias j; lag = d; contour = j })) (Going b)
 
 unfoldable pub with_pair : BestSoFar → ℤ → ℤ → ℤ → ℕ → ℕ → Bool → SearchState

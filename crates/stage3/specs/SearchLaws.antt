@@ -1,5 +1,5 @@
 -- Laws of the search from the front: what one pair more makes of what is known after n pairs, and that the search over the arrays is stage 3's pick.
-use Rattle.std.specs.Prelude.{◌≡◌, Bool, true, false, List, ℕ, ◌+◌, ◌-◌, ◌*◌, ◌/◌, ◌<◌, ◌≤◌, ℤ, pos, ◌≤ℤ◌, ◌<ℤ◌}
+use Rattle.std.specs.Prelude.{Option, Some, None, ◌≡◌, Bool, true, false, List, ℕ, ◌+◌, ◌-◌, ◌*◌, ◌/◌, ◌<◌, ◌≤◌, ℤ, pos, ◌≤ℤ◌, ◌<ℤ◌}
 use Rattle.std.proofs.Math.Path.{refl, sym, ap, ap₂, subst}
 use Rattle.std.proofs.Common.{◌∙◌, mul-le-mul_right, div-lt_iff_lt-mul, below_more, SFits}
 use Rattle.std.proofs.Math.Bool.{◌&&◌, cond}
@@ -21,8 +21,6 @@ use Rattle.best.specs.Best.{Place, none, at, best}
 use Rattle.best.specs.BestLaws.{some_true, some_false, some_ext}
 use Rattle.best.proofs.BestOfLaws.{search_start, search_skip, search_better, search_kept, search_best, best_ext}
 use Rattle.best.proofs.BestOfLaws as laws
-use Rattle.silk_macros.specs.declared.Quotient.{Quotient}
-use Rattle.silk_macros.specs.declared.Quotient.TheVariants.{Value, ZeroDivisor as ByZero}
 use Rattle.stage3.specs.declared.Found.TheVariants.{Pair, ZeroDivisor}
 use Rattle.stage3.specs.declared.BestSoFar.{BestSoFar}
 use Rattle.stage3.specs.declared.Found.{Found}
@@ -41,14 +39,14 @@ module _ (b : BestSoFar) (x e bias : ℤ) (d j : ℕ) (reach : Bool) where
   unfolding with_pair
   passed h = ap (λ (t : Bool). cond t (with_quotient b bias d j reach (quotient_of x e)) (Going b)) h
 
-  pub stopped : lt_z (pos 0) x ≡ true → quotient_of x e ≡ ByZero → with_pair b x e bias d j reach ≡ Stopped
+  pub stopped : lt_z (pos 0) x ≡ true → quotient_of x e ≡ None → with_pair b x e bias d j reach ≡ Stopped
   unfolding with_pair
-  stopped h k = ap₂ (λ (t : Bool) (q : Quotient). cond t (with_quotient b bias d j reach q) (Going b)) h k
+  stopped h k = ap₂ (λ (t : Bool) (q : Option ℤ). cond t (with_quotient b bias d j reach q) (Going b)) h k
 
-  module _ (q : ℤ) (h : lt_z (pos 0) x ≡ true) (k : quotient_of x e ≡ Value q) where
-    divided : with_pair b x e bias d j reach ≡ with_quotient b bias d j reach (Value q)
+  module _ (q : ℤ) (h : lt_z (pos 0) x ≡ true) (k : quotient_of x e ≡ Some q) where
+    divided : with_pair b x e bias d j reach ≡ with_quotient b bias d j reach (Some q)
     unfolding with_pair
-    divided = ap₂ (λ (t : Bool) (q : Quotient). cond t (with_quotient b bias d j reach q) (Going b)) h k
+    divided = ap₂ (λ (t : Bool) (q : Option ℤ). cond t (with_quotient b bias d j reach q) (Going b)) h k
 
     pub better : reach ≡ true → lt_z b.top (biased q bias j) ≡ true → with_pair b x e bias d j reach ≡ Going (record { top = biased q bias j; lag = d; contour = j })
     better r l =
@@ -108,20 +106,20 @@ module _ (c : Choice) where
         subst (AfterFirst c (n + 1)) (sym (passed b (c.cross d j) (c.energy d j) (bias_of c.lag) d j reach h))
         (kept (ap (λ (t : Bool). t && reach) h) (ap (λ (t : Bool). t && by_zero (quotient_of (c.cross d j) (c.energy d j))) h))
 
-    zero_divisor : lt_z (pos 0) (c.cross d j) ≡ true → quotient_of (c.cross d j) (c.energy d j) ≡ ByZero → AfterFirst c (n + 1) next
+    zero_divisor : lt_z (pos 0) (c.cross d j) ≡ true → quotient_of (c.cross d j) (c.energy d j) ≡ None → AfterFirst c (n + 1) next
     unfolding zero_reached3
     zero_divisor h k =
         subst (AfterFirst c (n + 1)) (sym (stopped b (c.cross d j) (c.energy d j) (bias_of c.lag) d j reach h k))
-        (n, omega arith, ap₂ (λ (t : Bool) (q : Quotient). t && by_zero q) h k)
+        (n, omega arith, ap₂ (λ (t : Bool) (q : Option ℤ). t && by_zero q) h k)
 
-    module _ (q : ℤ) (f : SFits w32 q) (h : lt_z (pos 0) (c.cross d j) ≡ true) (k : quotient_of (c.cross d j) (c.energy d j) ≡ Value q) where
+    module _ (q : ℤ) (f : SFits w32 q) (h : lt_z (pos 0) (c.cross d j) ≡ true) (k : quotient_of (c.cross d j) (c.energy d j) ≡ Some q) where
       scored : score_no c n ≡ biased q (bias_of c.lag) j
       unfolding score
       scored = ap (score_of c.lag j) k
 
       no_zero_here : zero_no c n ≡ false
       unfolding zero_reached3
-      no_zero_here = ap₂ (λ (t : Bool) (x : Quotient). t && by_zero x) h k
+      no_zero_here = ap₂ (λ (t : Bool) (x : Option ℤ). t && by_zero x) h k
 
       is_cand : (t : Bool) → reach ≡ t → candidate_no c n ≡ t
       unfolding candidate
@@ -159,14 +157,14 @@ module _ (c : Choice) where
       by_score true false r l = not_higher l
 
     -- the quotient's value fits
-    value_fits : (t : Bool) (q : ℤ) → cond t ByZero (Value (div32_varq (c.cross d j) (c.energy d j) (pos 14))) ≡ Value q → SFits w32 q
+    value_fits : (t : Bool) (q : ℤ) → cond t None (Some (div32_varq (c.cross d j) (c.energy d j) (pos 14))) ≡ Some q → SFits w32 q
     value_fits true q e = let z : ◌≡◌ {A = ℕ} 0 1 = cc in absurd (omega arith)
     value_fits false q e = let z : div32_varq (c.cross d j) (c.energy d j) (pos 14) ≡ q = cc in subst (SFits w32) z (div32_varq_fits (c.cross d j) (c.energy d j) (pos 14))
 
-    by_quotient : (x : Quotient) → lt_z (pos 0) (c.cross d j) ≡ true → quotient_of (c.cross d j) (c.energy d j) ≡ x → AfterFirst c (n + 1) next
+    by_quotient : (x : Option ℤ) → lt_z (pos 0) (c.cross d j) ≡ true → quotient_of (c.cross d j) (c.energy d j) ≡ x → AfterFirst c (n + 1) next
     unfolding quotient
-    by_quotient ByZero h k = zero_divisor h k
-    by_quotient (Value q) h k = by_score q (value_fits (eq_z (c.energy d j) (pos 0)) q k) h k reach (lt_z b.top (biased q (bias_of c.lag) j)) refl refl
+    by_quotient None h k = zero_divisor h k
+    by_quotient (Some q) h k = by_score q (value_fits (eq_z (c.energy d j) (pos 0)) q k) h k reach (lt_z b.top (biased q (bias_of c.lag) j)) refl refl
 
     by_sign : (t : Bool) → lt_z (pos 0) (c.cross d j) ≡ t → AfterFirst c (n + 1) next
     by_sign true h = by_quotient (quotient_of (c.cross d j) (c.energy d j)) h refl

@@ -10,7 +10,7 @@ ghost use Rattle.stage3.specs.Pick.{first_tried, last_tried, biased, reached, pi
 ghost use Rattle.stage3.specs.Stage3.{sat_sum, energy_target, stage3, found_numbers, stage3_verdict, stage3_values, Handed};
 ghost use Rattle.stage3.specs.Search.{with_pair, at3, array_choice, Scanned, TriedPair, BestOfFirst, AfterFirst};
 
-use silk_macros::{Quotient, silk_add_sat32, silk_div32_16, silk_div32_varq, silk_smulwb};
+use silk_macros::{silk_add_sat32, silk_div32_16, silk_div32_varq, silk_smulwb};
 use silk_sigproc::energy_from;
 use stage3_arrays::{silk_p_ana_calc_corr_st3, silk_p_ana_calc_energy_st3};
 use zint::wrapping_add_i32;
@@ -125,7 +125,7 @@ fn consider(
     ensures { result ≡ with_pair best cross_corr energy contour_bias_q15 d j (reached by.fs by.nb d j) }
 {
     if cross_corr > 0 {
-        let Quotient::Value(q) = silk_div32_varq(cross_corr, energy, 14) else {
+        let Some(q) = silk_div32_varq(cross_corr, energy, 14) else {
             return SearchState::Stopped;
         };
         let cc_max_new = mark_down(q, contour_bias_q15, j);

@@ -1,4 +1,5 @@
 -- `stage1::quotients` meets its contract. The invariant: no divisor below i is zero, and the array is filled below i.
+use Rattle.std.specs.Prelude.{Option}
 use mathlib.Core.Path.{◌≡◌, sym, ap, ap₂, ◌∙◌}
 use mathlib.Core.Bool.{false}
 use mathlib.Core.List.{List}
@@ -15,7 +16,6 @@ use Rattle.lists.specs.Signal.{sample}
 use Rattle.lists.specs.Fill.{filled}
 use Rattle.lists.specs.FillLaws.{filled_none, filled_turn}
 use Rattle.silk_macros.specs.Divide.{quotient, by_zero, low16_of}
-use Rattle.silk_macros.specs.declared.Quotient.{Quotient}
 use Rattle.stage1.specs.Steps.{quotient_at}
 use Rattle.stage1.specs.ScoreLaws.{a_divisor_zero, no_divisor_zero, value_low}
 use Rattle.zint.specs.RuleLaws.{zneeds}
@@ -25,7 +25,7 @@ pub loop-i-init : goal.loop-i-init
 loop-i-init c = (search zneeds, (search zneeds, (λ k h. absurd (omega arith), filled_none _ _)))
 
 -- what a turn divides
-known : (xs ns : List ℤ) (i : ℕ) {r : Quotient} → r ≡ quotient (to_z w32 (of_z w32 (get_or xs (64 - i) (pos 0)))) (to_z w32 (of_z w32 (get_or ns i (pos 0)))) (pos 14)
+known : (xs ns : List ℤ) (i : ℕ) {r : Option ℤ} → r ≡ quotient (to_z w32 (of_z w32 (get_or xs (64 - i) (pos 0)))) (to_z w32 (of_z w32 (get_or ns i (pos 0)))) (pos 14)
     → SFits w32 (get_or xs (64 - i) (pos 0)) → SFits w32 (get_or ns i (pos 0)) → r ≡ quotient_at xs ns i
 unfolding sample
 known xs ns i e f g = e ∙ ap₂ (λ (a b : ℤ). quotient a b (pos 14)) (r_var f).val (r_var g).val
@@ -40,8 +40,8 @@ loop-i-preserved c =
     let i = c.loop-i.i in
     let xs = a.xcorr32.now in
     let ns = a.normalizers.now in
-    let k = value_low (sym (known xs ns i c.silk_div32_varq.ensures.value (search zneeds) (search zneeds)) ∙ c.in-Value.is) in
-    let q : to_z w32 (of_z w32 c.in-Value.q) ≡ c.in-Value.q = search zneeds in
+    let k = value_low (sym (known xs ns i c.silk_div32_varq.ensures.value (search zneeds) (search zneeds)) ∙ c.in-Some.is) in
+    let q : to_z w32 (of_z w32 c.in-Some.q) ≡ c.in-Some.q = search zneeds in
     let r = (r_got w16 c.as_i16.type_inv (c.as_i16.ensures ∙ ap (wrap w16) q)).val in (
       omega arith,
       (
