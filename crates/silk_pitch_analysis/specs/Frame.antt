@@ -11,8 +11,8 @@ use Rattle.frame_signals.specs.Scale.{scaled}
 use Rattle.silk_resampler.specs.Down23.{source_filter}
 use Rattle.frame_signals.specs.Signals.{down_to_8khz, down_to_4khz}
 use Rattle.stage1.specs.Stage1.{stage1, kept_lags}
-use Rattle.stage1.specs.declared.Screen.{Screen}
-use Rattle.stage1.specs.declared.Screen.TheVariants.{ZeroDivisor as Zero1, Unvoiced as Unvoiced1, Goes}
+use Rattle.stage1.specs.Stage1.{Screen}
+use Rattle.stage1.specs.Stage1.{ZeroDivisor as Zero1, Unvoiced as Unvoiced1, Goes}
 use Rattle.stage2.specs.Stage2.{stage2}
 use Rattle.stage2.specs.declared.Stage2.{Stage2}
 use Rattle.stage2.specs.declared.Stage2.TheVariants.{ZeroDivisor as Zero2, Unvoiced as Unvoiced2, Winner}

@@ -14,8 +14,8 @@ use Rattle.frame_signals.specs.ScaleLaws.{length_scaled}
 use Rattle.stage1.specs.Stage1.{stage1, Handed1}
 use Rattle.stage1.specs.Meaning.{Said}
 use Rattle.stage1.specs.MeaningLaws.{zero_where, zero_only, unvoiced_only, unvoiced_where, goes_where, stage1_means}
-use Rattle.stage1.specs.declared.Screen.{Screen}
-use Rattle.stage1.specs.declared.Screen.TheVariants.{ZeroDivisor as Zeroed, Unvoiced as Low, Goes}
+use Rattle.stage1.specs.Stage1.{Screen}
+use Rattle.stage1.specs.Stage1.{ZeroDivisor as Zeroed, Unvoiced as Low, Goes}
 use Rattle.stage2.specs.Stage2.{stage2}
 use Rattle.stage2.specs.Meaning.{Meaning2}
 use Rattle.stage2.specs.MeaningLaws.{stage2_means, stage2_only}

@@ -13,8 +13,8 @@ use Rattle.silk_tables.specs.ContourLaws.{contours_8, contours_other}
 use Rattle.frame_signals.specs.Scale.{scaled}
 use Rattle.frame_signals.specs.ScaleLaws.{length_scaled}
 use Rattle.stage1.specs.Stage1.{stage1, kept_lags}
-use Rattle.stage1.specs.declared.Screen.{Screen}
-use Rattle.stage1.specs.declared.Screen.TheVariants.{ZeroDivisor as Zero1, Unvoiced as Unvoiced1, Goes}
+use Rattle.stage1.specs.Stage1.{Screen}
+use Rattle.stage1.specs.Stage1.{ZeroDivisor as Zero1, Unvoiced as Unvoiced1, Goes}
 use Rattle.stage2.specs.Stage2.{stage2}
 use Rattle.stage2.specs.MeaningLaws.{winner_range}
 use Rattle.stage2.specs.declared.Stage2.{Stage2}

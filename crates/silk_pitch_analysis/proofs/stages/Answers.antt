@@ -15,9 +15,9 @@ use Rattle.pitch_settings.specs.Settings.{settings_no}
 use Rattle.pitch_settings.specs.SettingsLaws.{accepted_settings}
 use Rattle.stage1.specs.Stage1.{stage1, kept_lags}
 use Rattle.stage1.specs.AnswerLaws.{kept_few, kept_low, kept_high, answer_size, answer_count, answer_kept}
-use Rattle.stage1.specs.declared.Screen.{Screen}
-use Rattle.stage1.specs.declared.Screen.TheVariants.{Goes}
-use Rattle.stage1.specs.declared.Stage1.{Stage1}
+use Rattle.stage1.specs.Stage1.{Screen}
+use Rattle.stage1.specs.Stage1.{Goes}
+use Rattle.stage1.specs.Stage1.{Stage1}
 use Rattle.stage2.specs.Stage2.{stage2}
 use Rattle.stage2_correlations.specs.Marks.{Kept}
 use Rattle.silk_pitch_analysis.specs.Frame.{from_winner, from_screen, second_stage}
