@@ -14,8 +14,8 @@ use Rattle.stage1.specs.Stage1.{stage1, kept_lags}
 use Rattle.stage1.specs.Stage1.{Screen}
 use Rattle.stage1.specs.Stage1.{ZeroDivisor as Zero1, Unvoiced as Unvoiced1, Goes}
 use Rattle.stage2.specs.Stage2.{stage2}
-use Rattle.stage2.specs.declared.Stage2.{Stage2}
-use Rattle.stage2.specs.declared.Stage2.TheVariants.{ZeroDivisor as Zero2, Unvoiced as Unvoiced2, Winner}
+use Rattle.stage2.specs.Stage2.{Stage2}
+use Rattle.stage2.specs.Stage2.{ZeroDivisor as Zero2, Unvoiced as Unvoiced2, Winner}
 use Rattle.stage3.specs.Stage3.{stage3}
 use Rattle.stage3.specs.declared.Found.{Found}
 use Rattle.stage3.specs.declared.Found.TheVariants.{Pair, ZeroDivisor as Zero3}

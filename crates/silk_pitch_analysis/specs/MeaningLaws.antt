@@ -19,8 +19,8 @@ use Rattle.stage1.specs.Stage1.{ZeroDivisor as Zeroed, Unvoiced as Low, Goes}
 use Rattle.stage2.specs.Stage2.{stage2}
 use Rattle.stage2.specs.Meaning.{Meaning2}
 use Rattle.stage2.specs.MeaningLaws.{stage2_means, stage2_only}
-use Rattle.stage2.specs.declared.Stage2.{Stage2}
-use Rattle.stage2.specs.declared.Stage2.TheVariants.{ZeroDivisor as ZeroIn2, Unvoiced as NoWinner, Winner}
+use Rattle.stage2.specs.Stage2.{Stage2}
+use Rattle.stage2.specs.Stage2.{ZeroDivisor as ZeroIn2, Unvoiced as NoWinner, Winner}
 use Rattle.stage3.specs.Stage3.{stage3}
 use Rattle.stage3.specs.Meaning.{Meaning as Meaning3}
 use Rattle.stage3.specs.MeaningLaws.{stage3_means, stage3_only}

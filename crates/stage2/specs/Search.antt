@@ -4,8 +4,8 @@ use Rattle.std.specs.Prelude.{◌≡◌, ◌&&◌, cond, List, [], ◌⊎◌, �
 use Rattle.std.specs.Int.Signed.{lt_z, quot_z}
 use Rattle.silk_tables.specs.Tables.{entries2, contours2}
 use Rattle.stage2_correlations.specs.Marks.{Kept, listed}
-use Rattle.stage2.specs.declared.Stage2.{Stage2}
-use Rattle.stage2.specs.declared.Stage2.TheVariants.{Unvoiced, Winner}
+use Rattle.stage2.specs.Stage2.{Stage2}
+use Rattle.stage2.specs.Stage2.{Unvoiced, Winner}
 use Rattle.stage2.specs.declared.Along.{Along}
 use Rattle.stage2.specs.declared.BestLag.{BestLag}
 use Rattle.stage2.specs.declared.LagSearch.{LagSearch}

@@ -8,25 +8,22 @@ ghost use Rattle.answers.specs.Answer.{answer_numbers};
 ghost use Rattle.silk_tables.specs.Tables.{entries2};
 ghost use Rattle.stage2_correlations.specs.Marks.{Kept};
 ghost use Rattle.stage2.specs.Scores.{contour_sum, prev_8khz, distance, prev_bias, biased2};
-ghost use Rattle.stage2.specs.Stage2.{stage2, stage2_numbers, stage2_verdict, stage2_values, Handed2};
+ghost use Rattle.stage2.specs.Stage2.{answer_of, stage2, stage2_numbers, stage2_verdict, stage2_values, Handed2};
 ghost use Rattle.stage2.specs.Search.{at2, HandedLag, HandedSearch, ContoursTried, along, considered, lag_search, search_in, best_with, best_answer, BestOfAll};
 
+use answers::NoPitch;
 use silk_macros::{
     silk_div32, silk_div32_16, silk_lin2log, silk_lshift, silk_mul, silk_rshift, silk_smulbb,
 };
 use silk_tables::{lag_cb_stage2, nb_cbk_search_stage2};
 use stage2_correlations::{is_listed, measured_lags, subframe_row};
 
-// What stage 2 answers: a zero divisor was reached, no lag passes, or the winner's lag at 8 kHz, its contour and its correlation at Q15.
-#[derive(Drop)]
-pub enum Stage2 {
-    ZeroDivisor,
-    Unvoiced,
-    Winner {
-        lag: usize,
-        contour: usize,
-        correlation: i32,
-    },
+// The winner's lag at 8 kHz, its contour and its correlation at Q15.
+#[derive(Clone, Copy)]
+pub struct Chosen {
+    pub lag: usize,
+    pub contour: usize,
+    pub correlation: i32,
 }
 
 // A lag's best contour and the sum along it.
@@ -201,20 +198,20 @@ fn pick_lag(c_8khz: &[[i16; 132]; 4], kept: &[usize], by: LagSearch) -> BestLag
 }
 
 // The answer of the search.
-fn answer(best: BestLag, nb_subfr: usize) -> Stage2
+fn answer(best: BestLag, nb_subfr: usize) -> Result<Chosen, NoPitch>
     requires { (nat_abs best.cc ≤ 131072) × ((2 ≤ nb_subfr) × (nb_subfr ≤ 4)) }
-    ensures { result ≡ best_answer nb_subfr best }
+    ensures { answer_of result ≡ best_answer nb_subfr best }
 {
     let lag = best.lag;
     if lag == 0 {
-        return Stage2::Unvoiced;
+        return Err(NoPitch::Unvoiced);
     }
     let cc = best.cc;
-    Stage2::Winner {
+    Ok(Chosen {
         lag: lag,
         contour: best.contour,
         correlation: silk_lshift(silk_div32_16(cc, nb_subfr as i32), 2),
-    }
+    })
 }
 
 // What the search goes by, from the settings and the previous lag and correlation.
@@ -248,20 +245,16 @@ pub fn search_stage2(
     search_thres2_q13: i32,
     prev_lag: i32,
     prev_corr: i32,
-) -> Stage2
+) -> Result<Chosen, NoPitch>
     requires { Handed2 frame_8khz.now kept.now fs_khz nb_subfr complexity }
-    ensures value { result ≡ stage2 frame_8khz.now kept.now fs_khz nb_subfr complexity search_thres2_q13 prev_lag prev_corr }
-    ensures result_value { stage2_numbers result ≡ answer_numbers (stage2_verdict frame_8khz.now kept.now fs_khz nb_subfr complexity search_thres2_q13 prev_lag prev_corr) (stage2_values frame_8khz.now kept.now fs_khz nb_subfr complexity search_thres2_q13 prev_lag prev_corr) }
+    ensures value { answer_of result ≡ stage2 frame_8khz.now kept.now fs_khz nb_subfr complexity search_thres2_q13 prev_lag prev_corr }
+    ensures numbers { stage2_numbers (answer_of result) ≡ answer_numbers (stage2_verdict frame_8khz.now kept.now fs_khz nb_subfr complexity search_thres2_q13 prev_lag prev_corr) (stage2_values frame_8khz.now kept.now fs_khz nb_subfr complexity search_thres2_q13 prev_lag prev_corr) }
 {
     let marks = measured_lags(kept);
     let mut c_8khz = [[0i16; 132]; 4];
     for k in 0..nb_subfr {
-        let row = subframe_row(frame_8khz, k, &marks);
-        if row.zero {
-            return Stage2::ZeroDivisor;
-        }
-        let c = row.c;
-        c_8khz[k] = c;
+        let row = subframe_row(frame_8khz, k, &marks).ok_or(NoPitch::ZeroDivisor)?;
+        c_8khz[k] = row;
     }
     let by = lag_search(
         fs_khz,

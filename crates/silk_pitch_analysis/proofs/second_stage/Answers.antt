@@ -12,7 +12,7 @@ use Rattle.pitch_settings.specs.declared.Settings.{Settings}
 use Rattle.pitch_settings.specs.SettingsLaws.{accepted_settings}
 use Rattle.stage2.specs.Stage2.{stage2}
 use Rattle.stage2.specs.MeaningLaws.{winner_range}
-use Rattle.stage2.specs.declared.Stage2.{Stage2}
+use Rattle.stage2.specs.Stage2.{Stage2}
 use Rattle.silk_pitch_analysis.specs.Frame.{from_winner, last_stage}
 use Rattle.silk_pitch_analysis.proofs.second_stage.Goals as goal
 

@@ -12,7 +12,7 @@ use Rattle.zint.specs.BoundLaws.{abs_fits, abs_prod}
 use Rattle.zint.specs.WrapLaws.{wrap_id}
 use Rattle.zint.specs.ReadLaws.{r_nat, r_got, r_call1}
 use Rattle.zint.specs.Wrap.{wrap}
-use Rattle.stage2.specs.declared.Stage2.TheVariants.{Unvoiced, Winner}
+use Rattle.stage2.specs.Stage2.{Unvoiced, Winner}
 use Rattle.stage2.specs.ScoreLaws.{quot_le}
 use Rattle.stage2.specs.Search.{best_answer}
 use Rattle.zint.specs.RuleLaws.{zneeds}
