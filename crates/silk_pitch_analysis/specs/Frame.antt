@@ -17,8 +17,8 @@ use Rattle.stage2.specs.Stage2.{stage2}
 use Rattle.stage2.specs.Stage2.{Stage2}
 use Rattle.stage2.specs.Stage2.{ZeroDivisor as Zero2, Unvoiced as Unvoiced2, Winner}
 use Rattle.stage3.specs.Stage3.{stage3}
-use Rattle.stage3.specs.declared.Found.{Found}
-use Rattle.stage3.specs.declared.Found.TheVariants.{Pair, ZeroDivisor as Zero3}
+use Rattle.stage3.specs.Pick.{Found}
+use Rattle.stage3.specs.Pick.{Pair, ZeroDivisor as Zero3}
 use Rattle.silk_pitch_analysis.specs.declared.Verdict.{Verdict}
 use Rattle.silk_pitch_analysis.specs.declared.Verdict.TheVariants.{Voiced, Unvoiced, ZeroDivisor}
 use Rattle.silk_pitch_analysis.specs.declared.FrameAnswer.{FrameAnswer}

@@ -24,8 +24,8 @@ use Rattle.stage2.specs.Stage2.{ZeroDivisor as ZeroIn2, Unvoiced as NoWinner, Wi
 use Rattle.stage3.specs.Stage3.{stage3}
 use Rattle.stage3.specs.Meaning.{Meaning as Meaning3}
 use Rattle.stage3.specs.MeaningLaws.{stage3_means, stage3_only}
-use Rattle.stage3.specs.declared.Found.{Found}
-use Rattle.stage3.specs.declared.Found.TheVariants.{Pair, ZeroDivisor as ZeroIn3}
+use Rattle.stage3.specs.Pick.{Found}
+use Rattle.stage3.specs.Pick.{Pair, ZeroDivisor as ZeroIn3}
 use Rattle.silk_pitch_analysis.specs.declared.Verdict.{Verdict}
 use Rattle.silk_pitch_analysis.specs.declared.Verdict.TheVariants.{Voiced, Unvoiced, ZeroDivisor}
 use Rattle.silk_pitch_analysis.specs.Frame.{scaled_lag, from_pair, last_stage, from_winner, second_stage, from_screen, staged, verdict_of}

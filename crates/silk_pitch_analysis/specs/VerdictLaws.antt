@@ -20,8 +20,8 @@ use Rattle.stage2.specs.MeaningLaws.{winner_range}
 use Rattle.stage2.specs.Stage2.{Stage2}
 use Rattle.stage2.specs.Stage2.{ZeroDivisor as Zero2, Unvoiced as Unvoiced2, Winner}
 use Rattle.stage3.specs.Stage3.{stage3}
-use Rattle.stage3.specs.declared.Found.{Found}
-use Rattle.stage3.specs.declared.Found.TheVariants.{Pair, ZeroDivisor as Zero3}
+use Rattle.stage3.specs.Pick.{Found}
+use Rattle.stage3.specs.Pick.{Pair, ZeroDivisor as Zero3}
 use Rattle.silk_pitch_analysis.specs.Frame.{signal8, signal4, scaled_lag, from_pair, last_stage, from_winner, second_stage, from_screen, staged, verdict_of}
 use Rattle.silk_pitch_analysis.specs.Steps.{WinnerRange, VerdictCarried, unvoiced, zero_divisor}
 use Rattle.silk_pitch_analysis.specs.FrameLaws.{pair_carried, stage3_range}

@@ -5,8 +5,17 @@ use Rattle.silk_macros.specs.Macros.{smulwb}
 use Rattle.silk_macros.specs.Divide.{quotient, by_zero}
 use Rattle.silk_tables.specs.Tables.{in_use, offset, least_lag, greatest_lag}
 use Rattle.best.specs.Best.{some, Place, none, at, best}
-use Rattle.stage3.specs.declared.Found.{Found}
-use Rattle.stage3.specs.declared.Found.TheVariants.{Pair, ZeroDivisor}
+use Rattle.stage3.specs.declared.LagContour.{LagContour}
+
+-- what stage 3 answers: the lag and the contour, or that a quotient it takes has divisor zero
+pub data Found : Type 0 where
+  Pair : ℕ → ℕ → Found
+  ZeroDivisor : Found
+
+-- the code's answer
+abbrev pub answer_of : Option LagContour → Found
+answer_of (Some p) = Pair p.lag p.contour
+answer_of None = ZeroDivisor
 
 -- what stage 3 chooses from: the rate, the subframe count, the complexity, the scaled winner of stage 2, and of every pair of a lag d and a contour j the summed
 -- cross-correlation and the summed energy

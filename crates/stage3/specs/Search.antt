@@ -6,11 +6,9 @@ use Rattle.zint.specs.Minus.{minus}
 use Rattle.silk_tables.specs.Tables.{TableSettings, in_use, least_lag, greatest_lag}
 use Rattle.best.specs.Best.{Place}
 use Rattle.best.proofs.BestOfLaws as laws
-use Rattle.stage3.specs.declared.Found.TheVariants.{Pair}
+use Rattle.stage3.specs.Pick.{Pair}
 use Rattle.stage3.specs.declared.BestSoFar.{BestSoFar}
 use Rattle.stage3.specs.declared.PairSearch.{PairSearch}
-use Rattle.stage3.specs.declared.SearchState.{SearchState}
-use Rattle.stage3.specs.declared.SearchState.TheVariants.{Going, Stopped}
 use Rattle.stage3.specs.Pick.{Choice, first_tried, quotient_of, bias_of, biased, zero_no, candidate_no, score_no, pair_at}
 use Rattle.stage3.specs.Stage3.{sat_sum}
 
@@ -34,13 +32,13 @@ array_choice X E e by =
     }
 
 -- one pair more: the quotient is taken where the cross-correlation is positive
-abbrev pub with_quotient : BestSoFar → ℤ → ℕ → ℕ → Bool → Option ℤ → SearchState
-with_quotient b bias d j reach None = Stopped
+abbrev pub with_quotient : BestSoFar → ℤ → ℕ → ℕ → Bool → Option ℤ → Option BestSoFar
+with_quotient b bias d j reach None = None
 with_quotient b bias d j reach (Some q) =
-    cond (reach && lt_z b.top (biased q bias j)) (Going (record { top = biased q bias j; lag = d; contour = j })) (Going b)
+    cond (reach && lt_z b.top (biased q bias j)) (Some (record { top = biased q bias j; lag = d; contour = j })) (Some b)
 
-unfoldable pub with_pair : BestSoFar → ℤ → ℤ → ℤ → ℕ → ℕ → Bool → SearchState
-with_pair b x e bias d j reach = cond (lt_z (pos 0) x) (with_quotient b bias d j reach (quotient_of x e)) (Going b)
+unfoldable pub with_pair : BestSoFar → ℤ → ℤ → ℤ → ℕ → ℕ → Bool → Option BestSoFar
+with_pair b x e bias d j reach = cond (lt_z (pos 0) x) (with_quotient b bias d j reach (quotient_of x e)) (Some b)
 
 -- what a scan is handed
 pub record Scanned (bias : ℤ) (by : PairSearch) : Type 0 where
@@ -67,6 +65,6 @@ pub record BestOfFirst (c : Choice) (n : ℕ) (b : BestSoFar) : Type 0 where
   pub no_zero : (q : ℕ) → q < n → zero_no c q ≡ false
 
 -- that, or one of them had a zero divisor
-abbrev pub AfterFirst : Choice → ℕ → SearchState → Type 0
-AfterFirst c n (Going b) = BestOfFirst c n b
-AfterFirst c n Stopped = (q : ℕ) × (q < n) × (zero_no c q ≡ true)
+abbrev pub AfterFirst : Choice → ℕ → Option BestSoFar → Type 0
+AfterFirst c n (Some b) = BestOfFirst c n b
+AfterFirst c n None = (q : ℕ) × (q < n) × (zero_no c q ≡ true)

@@ -21,12 +21,10 @@ use Rattle.best.specs.Best.{Place, none, at, best}
 use Rattle.best.specs.BestLaws.{some_true, some_false, some_ext}
 use Rattle.best.proofs.BestOfLaws.{search_start, search_skip, search_better, search_kept, search_best, best_ext}
 use Rattle.best.proofs.BestOfLaws as laws
-use Rattle.stage3.specs.declared.Found.TheVariants.{Pair, ZeroDivisor}
+use Rattle.stage3.specs.Pick.{Pair, ZeroDivisor}
 use Rattle.stage3.specs.declared.BestSoFar.{BestSoFar}
-use Rattle.stage3.specs.declared.Found.{Found}
+use Rattle.stage3.specs.Pick.{Found}
 use Rattle.stage3.specs.declared.PairSearch.{PairSearch}
-use Rattle.stage3.specs.declared.SearchState.{SearchState}
-use Rattle.stage3.specs.declared.SearchState.TheVariants.{Going, Stopped}
 use Rattle.stage3.specs.Pick.{Choice, first_tried, last_tried, tried, quotient_of, bias_of, biased, score_of, used_in, zero_reached3, reached, candidate, score, zero_no, candidate_no, score_no, lag_no, contour_no, pair_count, pair_at, zero3, best3, pick}
 use Rattle.stage3.specs.Stage3.{energy_target, cross3, energy3, stage3, Handed}
 use Rattle.stage3.specs.Search.{at3, summed, array_choice, with_quotient, with_pair, BestOfFirst, AfterFirst}
@@ -35,34 +33,34 @@ use Rattle.stage3.specs.PickLaws.{score_above, sat_sum_ext, few_lags}
 -- ---- one pair more
 
 module _ (b : BestSoFar) (x e bias : ℤ) (d j : ℕ) (reach : Bool) where
-  pub passed : lt_z (pos 0) x ≡ false → with_pair b x e bias d j reach ≡ Going b
+  pub passed : lt_z (pos 0) x ≡ false → with_pair b x e bias d j reach ≡ Some b
   unfolding with_pair
-  passed h = ap (λ (t : Bool). cond t (with_quotient b bias d j reach (quotient_of x e)) (Going b)) h
+  passed h = ap (λ (t : Bool). cond t (with_quotient b bias d j reach (quotient_of x e)) (Some b)) h
 
-  pub stopped : lt_z (pos 0) x ≡ true → quotient_of x e ≡ None → with_pair b x e bias d j reach ≡ Stopped
+  pub stopped : lt_z (pos 0) x ≡ true → quotient_of x e ≡ None → with_pair b x e bias d j reach ≡ None
   unfolding with_pair
-  stopped h k = ap₂ (λ (t : Bool) (q : Option ℤ). cond t (with_quotient b bias d j reach q) (Going b)) h k
+  stopped h k = ap₂ (λ (t : Bool) (q : Option ℤ). cond t (with_quotient b bias d j reach q) (Some b)) h k
 
   module _ (q : ℤ) (h : lt_z (pos 0) x ≡ true) (k : quotient_of x e ≡ Some q) where
     divided : with_pair b x e bias d j reach ≡ with_quotient b bias d j reach (Some q)
     unfolding with_pair
-    divided = ap₂ (λ (t : Bool) (q : Option ℤ). cond t (with_quotient b bias d j reach q) (Going b)) h k
+    divided = ap₂ (λ (t : Bool) (q : Option ℤ). cond t (with_quotient b bias d j reach q) (Some b)) h k
 
-    pub better : reach ≡ true → lt_z b.top (biased q bias j) ≡ true → with_pair b x e bias d j reach ≡ Going (record { top = biased q bias j; lag = d; contour = j })
+    pub better : reach ≡ true → lt_z b.top (biased q bias j) ≡ true → with_pair b x e bias d j reach ≡ Some (record { top = biased q bias j; lag = d; contour = j })
     better r l =
-        divided ∙ ap₂ (λ (t u : Bool). cond (t && u) (Going (record { top = biased q bias j; lag = d; contour = j })) (Going b)) r l
+        divided ∙ ap₂ (λ (t u : Bool). cond (t && u) (Some (record { top = biased q bias j; lag = d; contour = j })) (Some b)) r l
 
-    pub lower : lt_z b.top (biased q bias j) ≡ false → with_pair b x e bias d j reach ≡ Going b
+    pub lower : lt_z b.top (biased q bias j) ≡ false → with_pair b x e bias d j reach ≡ Some b
     lower l =
-        divided ∙ ap (λ (u : Bool). cond (reach && u) (Going (record { top = biased q bias j; lag = d; contour = j })) (Going b)) l ∙ no_less reach
+        divided ∙ ap (λ (u : Bool). cond (reach && u) (Some (record { top = biased q bias j; lag = d; contour = j })) (Some b)) l ∙ no_less reach
       where
-        no_less : (t : Bool) → cond (t && false) (Going (record { top = biased q bias j; lag = d; contour = j })) (Going b) ≡ Going b
+        no_less : (t : Bool) → cond (t && false) (Some (record { top = biased q bias j; lag = d; contour = j })) (Some b) ≡ Some b
         no_less true = refl
         no_less false = refl
 
-    pub beyond : reach ≡ false → with_pair b x e bias d j reach ≡ Going b
+    pub beyond : reach ≡ false → with_pair b x e bias d j reach ≡ Some b
     beyond r =
-        divided ∙ ap (λ (t : Bool). cond (t && lt_z b.top (biased q bias j)) (Going (record { top = biased q bias j; lag = d; contour = j })) (Going b)) r
+        divided ∙ ap (λ (t : Bool). cond (t && lt_z b.top (biased q bias j)) (Some (record { top = biased q bias j; lag = d; contour = j })) (Some b)) r
 
 -- ---- after n pairs
 
@@ -88,7 +86,7 @@ module _ (c : Choice) where
     abbrev reach : Bool
     reach = reached c.fs c.nb d j
 
-    abbrev next : SearchState
+    abbrev next : Option BestSoFar
     next = with_pair b (c.cross d j) (c.energy d j) (bias_of c.lag) d j reach
 
     kept : candidate_no c n ≡ false → zero_no c n ≡ false → BestOfFirst c (n + 1) b
@@ -187,7 +185,7 @@ module _ (c : Choice) where
     number_contour = digits_mod (d - first_tried c.fs c.lag) h
 
     -- one pair more, as a turn of a loop over the contours has it
-    pub searched_turn : (b : BestSoFar) → BestOfFirst c number b → (r : SearchState) → r ≡ with_pair b (c.cross d j) (c.energy d j) (bias_of c.lag) d j (reached c.fs c.nb d j)
+    pub searched_turn : (b : BestSoFar) → BestOfFirst c number b → (r : Option BestSoFar) → r ≡ with_pair b (c.cross d j) (c.energy d j) (bias_of c.lag) d j (reached c.fs c.nb d j)
         → AfterFirst c ((d - first_tried c.fs c.lag) * used_in c + (j + 1)) r
     searched_turn b s r e =
         let p = number_lag in
@@ -198,7 +196,7 @@ module _ (c : Choice) where
         subst (λ (n : ℕ). AfterFirst c n r) m (subst (AfterFirst c (number + 1)) same (searched_next number b s))
 
   -- a zero divisor among the first n pairs is one among more
-  pub stopped_more : (n m : ℕ) → n ≤ m → AfterFirst c n Stopped → AfterFirst c m Stopped
+  pub stopped_more : (n m : ℕ) → n ≤ m → AfterFirst c n None → AfterFirst c m None
   stopped_more n m h (q, l, e) = (q, omega arith, e)
 
   -- after all pairs

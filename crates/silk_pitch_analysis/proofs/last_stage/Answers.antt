@@ -13,8 +13,8 @@ use Rattle.silk_tables.specs.Stage2Laws.{contours2_bounds}
 use Rattle.silk_tables.proofs.TableLaws.{in_use_bounds}
 use Rattle.silk_tables.specs.ContourLaws.{greatest_lag_le}
 use Rattle.stage3.specs.Stage3.{stage3}
-use Rattle.stage3.specs.declared.Found.{Found}
-use Rattle.stage3.specs.declared.Found.TheVariants.{Pair}
+use Rattle.stage3.specs.Pick.{Found}
+use Rattle.stage3.specs.Pick.{Pair}
 use Rattle.silk_pitch_analysis.specs.Frame.{scaled_lag, from_pair, last_stage}
 use Rattle.silk_pitch_analysis.specs.FrameLaws.{handed, stage3_range}
 use Rattle.silk_pitch_analysis.proofs.last_stage.Goals as goal
