@@ -8,16 +8,17 @@ ghost use Rattle.silk_pitch_analysis.specs.Frame.{from_pair, last_stage, from_wi
 ghost use Rattle.stage1.specs.Stage1.{stage1};
 ghost use Rattle.stage2.specs.Stage2.{stage2};
 ghost use Rattle.stage2_correlations.specs.Marks.{Kept};
-ghost use Rattle.stage3.specs.declared.Found.TheVariants.{Pair};
-ghost use Rattle.silk_pitch_analysis.specs.Steps.{VerdictCarried, WinnerRange};
+ghost use Rattle.stage3.specs.Pick.{Pair};
+ghost use Rattle.silk_pitch_analysis.specs.Steps.{verdict_without, verdict_from, VerdictCarried, WinnerRange};
 
+use answers::NoPitch;
 use frame_signals::{frame_4khz, frame_8khz, frame_shift, scale_into, working_frame};
 use pitch_settings::{Settings, frame_length, settings_no};
 use pitch_table::{Row, pair_lag, unpitched_row, voiced_row};
 use silk_resampler::source_filter;
-use stage1::{Screen, search_stage1};
-use stage2::{Stage2, search_stage2};
-use stage3::{Found, search_stage3};
+use stage1::search_stage1;
+use stage2::search_stage2;
+use stage3::search_stage3;
 
 // A frame's verdict, and a voiced frame's pair and correlation (Q15).
 #[derive(Clone, Copy)]
@@ -29,6 +30,17 @@ pub enum Verdict {
     },
     Unvoiced,
     ZeroDivisor,
+}
+
+impl From<NoPitch> for Verdict {
+    ghost from_gives = { λ e v. v ≡ verdict_without e };
+
+    fn from(e: NoPitch) -> Verdict {
+        match e {
+            NoPitch::Unvoiced => Verdict::Unvoiced,
+            NoPitch::ZeroDivisor => Verdict::ZeroDivisor,
+        }
+    }
 }
 
 // What the frame call says: the verdict, or the number of a refusal.
@@ -79,21 +91,23 @@ fn voiced(fs_khz: usize, lag: usize, contour: usize, correlation: i32) -> Verdic
 }
 
 // The verdict of stage 2's winner: at 8 kHz its own pair, else stage 3's.
-fn last_stage(w: &[i16], s: Settings, lag: usize, contour: usize, correlation: i32) -> Verdict
+fn last_stage(
+    w: &[i16],
+    s: Settings,
+    lag: usize,
+    contour: usize,
+    correlation: i32,
+) -> Result<Verdict, NoPitch>
     requires { (settings_no s ≡ 0) × ((length w.now ≡ frame_length s) × WinnerRange s lag contour) }
-    ensures { result ≡ last_stage s w.now lag contour correlation }
+    ensures { verdict_from result ≡ last_stage s w.now lag contour correlation }
 {
     let fs_khz = s.rate;
     if fs_khz == 8 {
-        return voiced(fs_khz, lag, contour, correlation);
+        return Ok(voiced(fs_khz, lag, contour, correlation));
     }
-    let nb = s.nb;
-    let complexity = s.complexity;
-    let found = search_stage3(w, lag * fs_khz / 8, nb, complexity, fs_khz);
-    let Found::Pair { lag: d, contour: j } = found else {
-        return Verdict::ZeroDivisor;
-    };
-    voiced(fs_khz, d, j, correlation)
+    let scaled = lag * fs_khz / 8;
+    let found = search_stage3(w, scaled, s.nb, s.complexity, fs_khz).ok_or(NoPitch::ZeroDivisor)?;
+    Ok(voiced(fs_khz, found.lag, found.contour, correlation))
 }
 
 // The lag of subframe k.
@@ -150,11 +164,11 @@ fn second_stage(
     s: Settings,
     prev_lag: i32,
     prev_corr: i32,
-) -> Verdict
+) -> Result<Verdict, NoPitch>
     requires { (settings_no s ≡ 0) × ((length w.now ≡ frame_length s) × ((length e.now ≡ (20 + 5 * s.nb) * 8) × Kept kept.now)) }
-    ensures { result ≡ from_winner s w.now (stage2 e.now kept.now s.rate s.nb s.complexity s.thres2 prev_lag prev_corr) }
+    ensures { verdict_from result ≡ from_winner s w.now (stage2 e.now kept.now s.rate s.nb s.complexity s.thres2 prev_lag prev_corr) }
 {
-    let answer = search_stage2(
+    let winner = search_stage2(
         e,
         kept,
         s.rate,
@@ -163,32 +177,24 @@ fn second_stage(
         s.thres2,
         prev_lag,
         prev_corr,
-    );
-    match answer {
-        Stage2::Winner {
-            lag,
-            contour,
-            correlation,
-        } => last_stage(w, s, lag, contour, correlation),
-        Stage2::Unvoiced => Verdict::Unvoiced,
-        Stage2::ZeroDivisor => Verdict::ZeroDivisor,
-    }
+    )?;
+    last_stage(w, s, winner.lag, winner.contour, winner.correlation)
 }
 
-// The stages in order, on the working frame and its forms at 8 and 4 kHz.
-fn stages(w: &[i16], e: &[i16], f: &[i16], s: Settings, prev_lag: i32, prev_corr: i32) -> Verdict
+// The stages in order, on the working frame and its forms at 8 and 4 kHz: a voiced verdict, or why there is no pitch.
+fn stages(
+    w: &[i16],
+    e: &[i16],
+    f: &[i16],
+    s: Settings,
+    prev_lag: i32,
+    prev_corr: i32,
+) -> Result<Verdict, NoPitch>
     requires { (settings_no s ≡ 0) × ((length w.now ≡ frame_length s) × ((length e.now ≡ (20 + 5 * s.nb) * 8) × (length f.now ≡ (20 + 5 * s.nb) * 4))) }
-    ensures { result ≡ from_screen s w.now e.now f.now prev_lag prev_corr (stage1 f.now s.nb s.complexity s.thres1).screen }
+    ensures { verdict_from result ≡ from_screen s w.now e.now f.now prev_lag prev_corr (stage1 f.now s.nb s.complexity s.thres1).screen }
 {
-    let first = search_stage1(f, s.nb, s.complexity, s.thres1);
-    let screen = first.screen;
-    let lags = first.lags;
-    let count = first.count;
-    match screen {
-        Screen::ZeroDivisor => Verdict::ZeroDivisor,
-        Screen::Unvoiced => Verdict::Unvoiced,
-        Screen::Goes => second_stage(w, e, &lags[..count], s, prev_lag, prev_corr),
-    }
+    let kept = search_stage1(f, s.nb, s.complexity, s.thres1)?;
+    second_stage(w, e, kept.as_slice(), s, prev_lag, prev_corr)
 }
 
 // The working frame w through all stages.
@@ -204,7 +210,9 @@ fn analyse_working(w: &[i16], s: Settings, prev_lag: i32, prev_corr: i32) -> Ver
     let n4 = (20 + 5 * nb) * 4;
     frame_8khz(w, &mut buf_8khz, fs_khz, source_filter());
     frame_4khz(&buf_8khz[..n8], &mut buf_4khz);
-    stages(w, &buf_8khz[..n8], &buf_4khz[..n4], s, prev_lag, prev_corr)
+    stages(w, &buf_8khz[..n8], &buf_4khz[..n4], s, prev_lag, prev_corr).unwrap_or_else(
+        Verdict::from,
+    )
 }
 
 // The verdict of the first N samples.

@@ -14,11 +14,9 @@ use Rattle.lists.specs.FillLaws.{filled_ext, get_or-filled, get_d_tabulate, leng
 use Rattle.best.specs.Best.{Place, at, first_from}
 use Rattle.best.specs.BestLaws.{first_at, first_none}
 use Rattle.silk_macros.specs.Macros.{smulwb}
-use Rattle.stage1.specs.Stage1.{ZeroDivisor, Unvoiced, Goes}
-use Rattle.stage1.specs.Stage1.{Stage1}
+use Rattle.stage1.specs.Stage1.{ZeroDivisor, Unvoiced, Goes, Stage1, zero1, score1, scores1, lag_at, score_at, search_length, threshold1, place_or, kept_count, stopped, screened, stage1}
 use Rattle.silk_sort.specs.Rank.{ranked}
 use Rattle.silk_sort.specs.RankLaws.{ranked_below}
-use Rattle.stage1.specs.Stage1.{zero1, score1, scores1, lag_at, score_at, search_length, threshold1, place_or, kept_count, stopped, screened, stage1}
 use Rattle.stage1.specs.Steps.{count_above, selected}
 
 -- p is the first number from i up to e that passes the test, or e where none does

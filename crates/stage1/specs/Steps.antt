@@ -6,9 +6,7 @@ use Rattle.lists.specs.Fill.{tabulate, filled}
 use Rattle.best.specs.Best.{some, first_from}
 use Rattle.silk_macros.specs.Macros.{smulwb}
 use Rattle.silk_macros.specs.Divide.{quotient, by_zero, low16_of}
-use Rattle.stage1.specs.Stage1.{Unvoiced, Goes}
-use Rattle.stage1.specs.Stage1.{Stage1}
-use Rattle.stage1.specs.Stage1.{quotient1, zero1, corr1, scores1, place_or, stopped}
+use Rattle.stage1.specs.Stage1.{Unvoiced, Goes, Stage1, quotient1, zero1, corr1, scores1, place_or, stopped}
 
 -- ---- the correlations
 

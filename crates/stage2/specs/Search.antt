@@ -4,13 +4,11 @@ use Rattle.std.specs.Prelude.{◌≡◌, ◌&&◌, cond, List, [], ◌⊎◌, �
 use Rattle.std.specs.Int.Signed.{lt_z, quot_z}
 use Rattle.silk_tables.specs.Tables.{entries2, contours2}
 use Rattle.stage2_correlations.specs.Marks.{Kept, listed}
-use Rattle.stage2.specs.Stage2.{Stage2}
-use Rattle.stage2.specs.Stage2.{Unvoiced, Winner}
+use Rattle.stage2.specs.Stage2.{Stage2, Unvoiced, Winner, picked}
 use Rattle.stage2.specs.declared.Along.{Along}
 use Rattle.stage2.specs.declared.BestLag.{BestLag}
 use Rattle.stage2.specs.declared.LagSearch.{LagSearch}
 use Rattle.stage2.specs.Scores.{best_contour, lag_sum, Search2, threshold2, prev_8khz, score2}
-use Rattle.stage2.specs.Stage2.{picked}
 
 -- ---- what is handed over
 

@@ -15,11 +15,10 @@ use Rattle.lists.specs.FillLaws.{get_d_tabulate, get_or-filled}
 use Rattle.stage2_correlations.specs.Marks.{listed}
 use Rattle.stage2_correlations.specs.Correlations.{correlation2}
 use Rattle.stage2_correlations.specs.RowLaws.{correlation_small, zero_in2, zero2_subframes}
-use Rattle.stage2.specs.Stage2.{ZeroDivisor, Unvoiced, Winner}
+use Rattle.stage2.specs.Stage2.{ZeroDivisor, Unvoiced, Winner, winner, won, picked, search_by, search_of, stage2}
 use Rattle.stage2.specs.declared.BestLag.{BestLag}
 use Rattle.stage2.specs.Scores.{contour_sum, best_contour, lag_sum, Search2, passes2, score2}
 use Rattle.stage2.specs.ScoreLaws.{contour_is, Agree, with_correlations, lag_small, score_above, best_contour_ext, lag_sum_ext, passes_ext, score_ext}
-use Rattle.stage2.specs.Stage2.{winner, won, picked, search_by, search_of, stage2}
 use Rattle.stage2.specs.Search.{at2, SixteenBits, along, considered, best_with, best_answer, BestOfAll}
 
 -- the first n contours: j is best, and top its sum

@@ -6,10 +6,9 @@ use Rattle.zint.specs.Minus.{minus}
 use Rattle.silk_tables.specs.Tables.{TableSettings, in_use, least_lag, greatest_lag}
 use Rattle.best.specs.Best.{Place}
 use Rattle.best.proofs.BestOfLaws as laws
-use Rattle.stage3.specs.Pick.{Pair}
+use Rattle.stage3.specs.Pick.{Pair, Choice, first_tried, quotient_of, bias_of, biased, zero_no, candidate_no, score_no, pair_at}
 use Rattle.stage3.specs.declared.BestSoFar.{BestSoFar}
 use Rattle.stage3.specs.declared.PairSearch.{PairSearch}
-use Rattle.stage3.specs.Pick.{Choice, first_tried, quotient_of, bias_of, biased, zero_no, candidate_no, score_no, pair_at}
 use Rattle.stage3.specs.Stage3.{sat_sum}
 
 -- a place of a nested array, and the sum over the subframes at a lag and a contour

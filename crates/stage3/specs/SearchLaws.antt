@@ -21,11 +21,9 @@ use Rattle.best.specs.Best.{Place, none, at, best}
 use Rattle.best.specs.BestLaws.{some_true, some_false, some_ext}
 use Rattle.best.proofs.BestOfLaws.{search_start, search_skip, search_better, search_kept, search_best, best_ext}
 use Rattle.best.proofs.BestOfLaws as laws
-use Rattle.stage3.specs.Pick.{Pair, ZeroDivisor}
+use Rattle.stage3.specs.Pick.{Pair, ZeroDivisor, Found, Choice, first_tried, last_tried, tried, quotient_of, bias_of, biased, score_of, used_in, zero_reached3, reached, candidate, score, zero_no, candidate_no, score_no, lag_no, contour_no, pair_count, pair_at, zero3, best3, pick}
 use Rattle.stage3.specs.declared.BestSoFar.{BestSoFar}
-use Rattle.stage3.specs.Pick.{Found}
 use Rattle.stage3.specs.declared.PairSearch.{PairSearch}
-use Rattle.stage3.specs.Pick.{Choice, first_tried, last_tried, tried, quotient_of, bias_of, biased, score_of, used_in, zero_reached3, reached, candidate, score, zero_no, candidate_no, score_no, lag_no, contour_no, pair_count, pair_at, zero3, best3, pick}
 use Rattle.stage3.specs.Stage3.{energy_target, cross3, energy3, stage3, Handed}
 use Rattle.stage3.specs.Search.{at3, summed, array_choice, with_quotient, with_pair, BestOfFirst, AfterFirst}
 use Rattle.stage3.specs.PickLaws.{score_above, sat_sum_ext, few_lags}
