@@ -9,7 +9,7 @@ ghost use Rattle.silk_tables.specs.Tables.{entries2};
 ghost use Rattle.stage2_correlations.specs.Marks.{Kept};
 ghost use Rattle.stage2.specs.Scores.{contour_sum, prev_8khz, distance, prev_bias, biased2};
 ghost use Rattle.stage2.specs.Stage2.{answer_of, stage2, stage2_numbers, stage2_verdict, stage2_values, Handed2};
-ghost use Rattle.stage2.specs.Search.{at2, HandedLag, HandedSearch, ContoursTried, along, considered, lag_search, search_in, best_with, best_answer, BestOfAll};
+ghost use Rattle.stage2.specs.Search.{at2, HandedLag, HandedSearch, ContoursTried, along, top_of, sum_of, considered, lag_search, search_in, best_with, best_answer, BestOfAll};
 
 use answers::NoPitch;
 use silk_macros::{
@@ -33,8 +33,8 @@ pub struct Along {
     pub contour: usize,
 }
 
-// The best passing lag so far, its score, sum and contour; the lag is 0 before the first.
-#[derive(Drop)]
+// The best passing lag so far, its score, sum and contour.
+#[derive(Clone, Copy)]
 pub struct BestLag {
     pub top: i32,
     pub cc: i32,
@@ -140,19 +140,36 @@ fn biased_score(cc: i32, nb_subfr: usize, d: usize, prev_lag_8khz: i32, prev_cor
     }
 }
 
+// The score that the next lag has to be above.
+fn top_of(best: Option<BestLag>) -> i32
+    ensures { result ≡ top_of best }
+{
+    match best {
+        Some(b) => b.top,
+        None => -2147483648,
+    }
+}
+
 // One lag more.
-fn consider(best: BestLag, d: usize, cc: i32, contour: usize, score: i32, thres: i32) -> BestLag
+fn consider(
+    best: Option<BestLag>,
+    d: usize,
+    cc: i32,
+    contour: usize,
+    score: i32,
+    thres: i32,
+) -> Option<BestLag>
     ensures { result ≡ considered best d cc contour score thres }
 {
-    let top = best.top;
+    let top = top_of(best);
     if cc > thres {
         if score > top {
-            return BestLag {
+            return Some(BestLag {
                 top: score,
                 cc: cc,
                 lag: d,
                 contour: contour,
-            };
+            });
         }
     }
     best
@@ -160,12 +177,12 @@ fn consider(best: BestLag, d: usize, cc: i32, contour: usize, score: i32, thres:
 
 // The lag d, where it is listed.
 fn try_lag(
-    best: BestLag,
+    best: Option<BestLag>,
     c_8khz: &[[i16; 132]; 4],
     kept: &[usize],
     by: LagSearch,
     d: usize,
-) -> BestLag
+) -> Option<BestLag>
     requires handed_lag { HandedLag c_8khz.now by.nb d × ContoursTried by }
     requires kept { Kept kept.now }
     ensures { result ≡ best_with (search_in c_8khz.now kept.now by) d best }
@@ -181,16 +198,11 @@ fn try_lag(
 }
 
 // The lags 16 to 143, rising.
-fn pick_lag(c_8khz: &[[i16; 132]; 4], kept: &[usize], by: LagSearch) -> BestLag
+fn pick_lag(c_8khz: &[[i16; 132]; 4], kept: &[usize], by: LagSearch) -> Option<BestLag>
     requires { HandedSearch c_8khz.now kept.now by.nb × ContoursTried by }
     ensures { BestOfAll (search_in c_8khz.now kept.now by) result }
 {
-    let mut best = BestLag {
-        top: -2147483648,
-        cc: 0,
-        lag: 0,
-        contour: 0,
-    };
+    let mut best = None;
     for d in 16..144 {
         best = try_lag(best, c_8khz, kept, by, d);
     }
@@ -198,19 +210,15 @@ fn pick_lag(c_8khz: &[[i16; 132]; 4], kept: &[usize], by: LagSearch) -> BestLag
 }
 
 // The answer of the search.
-fn answer(best: BestLag, nb_subfr: usize) -> Result<Chosen, NoPitch>
-    requires { (nat_abs best.cc ≤ 131072) × ((2 ≤ nb_subfr) × (nb_subfr ≤ 4)) }
+fn answer(best: Option<BestLag>, nb_subfr: usize) -> Result<Chosen, NoPitch>
+    requires { (nat_abs (sum_of best) ≤ 131072) × ((2 ≤ nb_subfr) × (nb_subfr ≤ 4)) }
     ensures { answer_of result ≡ best_answer nb_subfr best }
 {
-    let lag = best.lag;
-    if lag == 0 {
-        return Err(NoPitch::Unvoiced);
-    }
-    let cc = best.cc;
+    let won = best.ok_or(NoPitch::Unvoiced)?;
     Ok(Chosen {
-        lag: lag,
-        contour: best.contour,
-        correlation: silk_lshift(silk_div32_16(cc, nb_subfr as i32), 2),
+        lag: won.lag,
+        contour: won.contour,
+        correlation: silk_lshift(silk_div32_16(won.cc, nb_subfr as i32), 2),
     })
 }
 
