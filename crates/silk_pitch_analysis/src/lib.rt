@@ -17,7 +17,7 @@ use pitch_settings::{Settings, frame_length, settings_no};
 use pitch_table::{Row, pair_lag, unpitched_row, voiced_row};
 use silk_resampler::source_filter;
 use stage1::search_stage1;
-use stage2::search_stage2;
+use stage2::{Previous, search_stage2};
 use stage3::search_stage3;
 
 // A frame's verdict, and a voiced frame's pair and correlation (Q15).
@@ -162,45 +162,28 @@ fn second_stage(
     e: &[i16],
     kept: &[usize],
     s: Settings,
-    prev_lag: i32,
-    prev_corr: i32,
+    prev: Previous,
 ) -> Result<Verdict, NoPitch>
     requires { (settings_no s ≡ 0) × ((length w.now ≡ frame_length s) × ((length e.now ≡ (20 + 5 * s.nb) * 8) × Kept kept.now)) }
-    ensures { verdict_from result ≡ from_winner s w.now (stage2 e.now kept.now s.rate s.nb s.complexity s.thres2 prev_lag prev_corr) }
+    ensures { verdict_from result ≡ from_winner s w.now (stage2 e.now kept.now s.rate s.nb s.complexity s.thres2 prev.lag prev.correlation) }
 {
-    let winner = search_stage2(
-        e,
-        kept,
-        s.rate,
-        s.nb,
-        s.complexity,
-        s.thres2,
-        prev_lag,
-        prev_corr,
-    )?;
+    let winner = search_stage2(e, kept, s, prev)?;
     last_stage(w, s, winner.lag, winner.contour, winner.correlation)
 }
 
 // The stages in order, on the working frame and its forms at 8 and 4 kHz: a voiced verdict, or why there is no pitch.
-fn stages(
-    w: &[i16],
-    e: &[i16],
-    f: &[i16],
-    s: Settings,
-    prev_lag: i32,
-    prev_corr: i32,
-) -> Result<Verdict, NoPitch>
+fn stages(w: &[i16], e: &[i16], f: &[i16], s: Settings, prev: Previous) -> Result<Verdict, NoPitch>
     requires { (settings_no s ≡ 0) × ((length w.now ≡ frame_length s) × ((length e.now ≡ (20 + 5 * s.nb) * 8) × (length f.now ≡ (20 + 5 * s.nb) * 4))) }
-    ensures { verdict_from result ≡ from_screen s w.now e.now f.now prev_lag prev_corr (stage1 f.now s.nb s.complexity s.thres1).screen }
+    ensures { verdict_from result ≡ from_screen s w.now e.now f.now prev.lag prev.correlation (stage1 f.now s.nb s.complexity s.thres1).screen }
 {
     let kept = search_stage1(f, s.nb, s.complexity, s.thres1)?;
-    second_stage(w, e, kept.as_slice(), s, prev_lag, prev_corr)
+    second_stage(w, e, kept.as_slice(), s, prev)
 }
 
 // The working frame w through all stages.
-fn analyse_working(w: &[i16], s: Settings, prev_lag: i32, prev_corr: i32) -> Verdict
+fn analyse_working(w: &[i16], s: Settings, prev: Previous) -> Verdict
     requires { (settings_no s ≡ 0) × (length w.now ≡ frame_length s) }
-    ensures { result ≡ staged s w.now prev_lag prev_corr }
+    ensures { result ≡ staged s w.now prev.lag prev.correlation }
 {
     let mut buf_8khz = [0i16; 320];
     let mut buf_4khz = [0i16; 160];
@@ -210,22 +193,20 @@ fn analyse_working(w: &[i16], s: Settings, prev_lag: i32, prev_corr: i32) -> Ver
     let n4 = (20 + 5 * nb) * 4;
     frame_8khz(w, &mut buf_8khz, fs_khz, source_filter());
     frame_4khz(&buf_8khz[..n8], &mut buf_4khz);
-    stages(w, &buf_8khz[..n8], &buf_4khz[..n4], s, prev_lag, prev_corr).unwrap_or_else(
-        Verdict::from,
-    )
+    stages(w, &buf_8khz[..n8], &buf_4khz[..n4], s, prev).unwrap_or_else(Verdict::from)
 }
 
 // The verdict of the first N samples.
-fn analyse(frame: &[i16], s: Settings, prev_lag: i32, prev_corr: i32) -> Verdict
+fn analyse(frame: &[i16], s: Settings, prev: Previous) -> Verdict
     requires { (settings_no s ≡ 0) × (frame_length s ≤ length frame.now) }
-    ensures { result ≡ verdict_of s (take (frame_length s) frame.now) prev_lag prev_corr }
+    ensures { result ≡ verdict_of s (take (frame_length s) frame.now) prev.lag prev.correlation }
 {
     let n = frame_length(s);
     let mut scratch = [0i16; 640];
     let shift = frame_shift(frame, n);
     scale_into(frame, &mut scratch, n, shift);
     let w = working_frame(frame, &scratch, n, shift);
-    analyse_working(w, s, prev_lag, prev_corr)
+    analyse_working(w, s, prev)
 }
 
 // The row of the first N samples, or refusals 1 to 4 in order: a row has four lag places, so 5 never comes.
@@ -237,7 +218,11 @@ pub fn frame_row(s: Settings, x: &[i16], prev_lag: i32, prev_corr: i32) -> RowAn
     if no != 0 {
         return RowAnswer::Refused(no);
     }
-    let v = analyse(x, s, prev_lag, prev_corr);
+    let prev = Previous {
+        lag: prev_lag,
+        correlation: prev_corr,
+    };
+    let v = analyse(x, s, prev);
     let row = verdict_row(s, v);
     RowAnswer::Analysed(row)
 }
@@ -257,7 +242,11 @@ pub fn silk_pitch_analysis_core(
     if no != 0 {
         return FrameAnswer::Refused(no);
     }
-    let v = analyse(frame, s, prev_lag, prev_corr);
+    let prev = Previous {
+        lag: prev_lag,
+        correlation: prev_corr,
+    };
+    let v = analyse(frame, s, prev);
     put_lags(pitch_out, s, v);
     FrameAnswer::Analysed(v)
 }

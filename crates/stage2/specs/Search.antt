@@ -45,7 +45,7 @@ pub record ContoursTried (by : LagSearch) : Type 0 where
 -- what the search goes by, from the settings and the previous lag and correlation; and the search itself, in an array of correlations
 abbrev pub lag_search : ℕ → ℕ → ℕ → ℤ → ℤ → ℤ → LagSearch
 lag_search fs nb cx thres2 prev corr =
-    record { nb = nb; contours = contours2 fs nb cx; thres = threshold2 nb thres2; prev = prev_8khz fs prev; corr = corr }
+    record { nb = nb; contours = contours2 fs nb cx; thres = threshold2 nb thres2; prev = record { lag = prev_8khz fs prev; correlation = corr } }
 
 abbrev pub search_in : List (List ℤ) → List ℕ → LagSearch → Search2
 search_in c kept by =
@@ -55,8 +55,8 @@ search_in c kept by =
       subframes = by.nb;
       contours = by.contours;
       threshold = by.thres;
-      prev_lag = by.prev;
-      prev_corr = by.corr;
+      prev_lag = by.prev.lag;
+      prev_corr = by.prev.correlation;
     }
 
 -- ---- what is answered

@@ -12,6 +12,7 @@ ghost use Rattle.stage2.specs.Stage2.{answer_of, stage2, stage2_numbers, stage2_
 ghost use Rattle.stage2.specs.Search.{at2, HandedLag, HandedSearch, ContoursTried, along, top_of, sum_of, considered, lag_search, search_in, best_with, best_answer, BestOfAll};
 
 use answers::NoPitch;
+use pitch_settings::Settings;
 use silk_macros::{
     silk_div32, silk_div32_16, silk_lin2log, silk_lshift, silk_mul, silk_rshift, silk_smulbb,
 };
@@ -42,6 +43,13 @@ pub struct BestLag {
     pub contour: usize,
 }
 
+// The lag and the correlation of the frame before.
+#[derive(Clone, Copy)]
+pub struct Previous {
+    pub lag: i32,
+    pub correlation: i32,
+}
+
 // What the search goes by besides the correlations and the kept lags: how many subframes there are and how many contours are tried, what a lag's sum has to be above, and the
 // previous lag at 8 kHz with its correlation.
 #[derive(Clone, Copy)]
@@ -49,8 +57,7 @@ pub struct LagSearch {
     pub nb: usize,
     pub contours: usize,
     pub thres: i32,
-    pub prev: i32,
-    pub corr: i32,
+    pub prev: Previous,
 }
 
 // The correlations along contour j of the lag d, added up over the subframes.
@@ -190,7 +197,7 @@ fn try_lag(
     if is_listed(kept, d) {
         let found = best_contour(c_8khz, by.nb, by.contours, d);
         let cc = found.cc;
-        let score = biased_score(cc, by.nb, d, by.prev, by.corr);
+        let score = biased_score(cc, by.nb, d, by.prev.lag, by.prev.correlation);
         consider(best, d, cc, found.contour, score, by.thres)
     } else {
         best
@@ -223,54 +230,39 @@ fn answer(best: Option<BestLag>, nb_subfr: usize) -> Result<Chosen, NoPitch>
 }
 
 // What the search goes by, from the settings and the previous lag and correlation.
-fn lag_search(
-    fs_khz: usize,
-    nb_subfr: usize,
-    complexity: usize,
-    search_thres2_q13: i32,
-    prev_lag: i32,
-    prev_corr: i32,
-) -> LagSearch
-    requires { nb_subfr ≤ 4 }
-    ensures { result ≡ lag_search fs_khz nb_subfr complexity search_thres2_q13 prev_lag prev_corr }
+fn lag_search(s: Settings, prev: Previous) -> LagSearch
+    requires { s.nb ≤ 4 }
+    ensures { result ≡ lag_search s.rate s.nb s.complexity s.thres2 prev.lag prev.correlation }
 {
     LagSearch {
-        nb: nb_subfr,
-        contours: nb_cbk_search_stage2(fs_khz, nb_subfr, complexity),
-        thres: silk_smulbb(nb_subfr as i32, search_thres2_q13),
-        prev: previous_8khz(fs_khz, prev_lag),
-        corr: prev_corr,
+        nb: s.nb,
+        contours: nb_cbk_search_stage2(s.rate, s.nb, s.complexity),
+        thres: silk_smulbb(s.nb as i32, s.thres2),
+        prev: Previous {
+            lag: previous_8khz(s.rate, prev.lag),
+            correlation: prev.correlation,
+        },
     }
 }
 
-// Stage 2: the winner with its contour and correlation, unvoiced, or a zero divisor.
+// Stage 2: the winner with its contour and correlation, or that the frame is unvoiced, or a zero divisor.
 pub fn search_stage2(
     frame_8khz: &[i16],
     kept: &[usize],
-    fs_khz: usize,
-    nb_subfr: usize,
-    complexity: usize,
-    search_thres2_q13: i32,
-    prev_lag: i32,
-    prev_corr: i32,
+    s: Settings,
+    prev: Previous,
 ) -> Result<Chosen, NoPitch>
-    requires { Handed2 frame_8khz.now kept.now fs_khz nb_subfr complexity }
-    ensures value { answer_of result ≡ stage2 frame_8khz.now kept.now fs_khz nb_subfr complexity search_thres2_q13 prev_lag prev_corr }
-    ensures numbers { stage2_numbers (answer_of result) ≡ answer_numbers (stage2_verdict frame_8khz.now kept.now fs_khz nb_subfr complexity search_thres2_q13 prev_lag prev_corr) (stage2_values frame_8khz.now kept.now fs_khz nb_subfr complexity search_thres2_q13 prev_lag prev_corr) }
+    requires { Handed2 frame_8khz.now kept.now s.rate s.nb s.complexity }
+    ensures value { answer_of result ≡ stage2 frame_8khz.now kept.now s.rate s.nb s.complexity s.thres2 prev.lag prev.correlation }
+    ensures numbers { stage2_numbers (answer_of result) ≡ answer_numbers (stage2_verdict frame_8khz.now kept.now s.rate s.nb s.complexity s.thres2 prev.lag prev.correlation) (stage2_values frame_8khz.now kept.now s.rate s.nb s.complexity s.thres2 prev.lag prev.correlation) }
 {
     let marks = measured_lags(kept);
     let mut c_8khz = [[0i16; 132]; 4];
+    let nb_subfr = s.nb;
     for k in 0..nb_subfr {
         let row = subframe_row(frame_8khz, k, &marks).ok_or(NoPitch::ZeroDivisor)?;
         c_8khz[k] = row;
     }
-    let by = lag_search(
-        fs_khz,
-        nb_subfr,
-        complexity,
-        search_thres2_q13,
-        prev_lag,
-        prev_corr,
-    );
+    let by = lag_search(s, prev);
     answer(pick_lag(&c_8khz, kept, by), nb_subfr)
 }

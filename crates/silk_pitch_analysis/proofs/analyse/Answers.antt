@@ -6,7 +6,6 @@ use native.Mathlib.Omega.{arith}
 use lib.IntN.{ℤ}
 use lib.ListN.{length, take}
 use lib.Seq.{length-take-le}
-use Rattle.zint.specs.ReadLaws.{r_var}
 use Rattle.lists.specs.Fill.{filled}
 use Rattle.pitch_settings.specs.declared.Settings.{Settings}
 use Rattle.pitch_settings.specs.Settings.{frame_length}
@@ -48,4 +47,4 @@ returns c =
     let a = c.args in
     let e = working a.s a.frame.now _ c.frame_length-n.result (omega (arith, c.frame_length-n.ensures, c.requires.1)) c.frame_length-n.ensures c.frame_shift-shift.ensures.0 c.scale_into.ensures c.working_frame-w.ensures in
     c.analyse_working.ensures
-    ∙ (λ i. staged a.s (e i) ((r_var c.ranges.prev_lag).val i) ((r_var c.ranges.prev_corr).val i))
+    ∙ (λ i. staged a.s (e i) a.prev.lag a.prev.correlation)

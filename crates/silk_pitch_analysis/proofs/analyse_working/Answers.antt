@@ -5,7 +5,6 @@ use Prim.Native.Nat.{◌+◌, ◌*◌}
 use native.Mathlib.Omega.{arith}
 use lib.IntN.{ℤ, pos}
 use lib.ListN.{length, take, replicate}
-use Rattle.zint.specs.ReadLaws.{r_var}
 use Rattle.lists.specs.Fill.{overwritten}
 use Rattle.pitch_settings.specs.declared.Settings.{Settings}
 use Rattle.pitch_settings.specs.Settings.{settings_no, frame_length}
@@ -105,4 +104,4 @@ returns c =
     let e = eight_front a.s a.w.now c.requires.0 c.requires.1 c.source_filter.ensures.0 c.frame_8khz.ensures in
     let f = four_front a.s a.w.now c.requires.0 c.requires.1 e c.frame_4khz.ensures in
     let run : List ℤ → List ℤ → ℤ → ℤ → Verdict = λ x y pl pc. from_screen a.s a.w.now x y pl pc (stage1 y a.s.nb a.s.complexity a.s.thres1).screen in
-    said c.stages.result c.unwrap_or_else.result c.unwrap_or_else.ensures ∙ c.stages.ensures ∙ (λ i. run (e i) (f i) ((r_var c.ranges.prev_lag).val i) ((r_var c.ranges.prev_corr).val i))
+    said c.stages.result c.unwrap_or_else.result c.unwrap_or_else.ensures ∙ c.stages.ensures ∙ (λ i. run (e i) (f i) a.prev.lag a.prev.correlation)

@@ -62,7 +62,7 @@ returns-in_err-kept c =
     let a = c.args in
     let r = c.search_stage1 in
     let p = err_from_is_err_and c.from_residual.result c.from_residual.ensures.1 in
-    rw (p.1, p.2) (without a.s a.f.now c.requires.0 r.result (search zneeds) r.ensures.value a.w.now a.e.now a.prev_lag a.prev_corr _ c.in_err-kept.was)
+    rw (p.1, p.2) (without a.s a.f.now c.requires.0 r.result (search zneeds) r.ensures.value a.w.now a.e.now a.prev.lag a.prev.correlation _ c.in_err-kept.was)
 
 pub second_stage-requires : goal.second_stage-requires
 second_stage-requires c =
@@ -79,5 +79,5 @@ returns c =
     let r = c.search_stage1 in
     let e = c.as_slice.ensures ∙ front a.s a.f.now c.requires.0 r.result (search zneeds) r.ensures.value _ c.in_ok-kept.was in
     c.second_stage.ensures
-    ∙ (λ i. from_winner a.s a.w.now (stage2 a.e.now (e i) a.s.rate a.s.nb a.s.complexity a.s.thres2 ((r_var c.ranges.prev_lag).val i) ((r_var c.ranges.prev_corr).val i)))
-    ∙ goes a.s a.f.now c.requires.0 r.result (search zneeds) r.ensures.value a.w.now a.e.now a.prev_lag a.prev_corr _ c.in_ok-kept.was
+    ∙ (λ i. from_winner a.s a.w.now (stage2 a.e.now (e i) a.s.rate a.s.nb a.s.complexity a.s.thres2 a.prev.lag a.prev.correlation))
+    ∙ goes a.s a.f.now c.requires.0 r.result (search zneeds) r.ensures.value a.w.now a.e.now a.prev.lag a.prev.correlation _ c.in_ok-kept.was
