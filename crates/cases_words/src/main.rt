@@ -9,7 +9,7 @@ ghost use Rattle.std.proofs.Common.{SFits};
 
 use cases_io::{Tally, i16_at, i32_at, read_full, room, skip};
 use silk_macros::{
-    Quotient, silk_add_sat16, silk_add_sat32, silk_clz_frac, silk_clz32, silk_div32, silk_div32_16,
+    silk_add_sat16, silk_add_sat32, silk_clz_frac, silk_clz32, silk_div32, silk_div32_16,
     silk_div32_varq, silk_limit_32, silk_lin2log, silk_lshift, silk_lshift_sat32, silk_mul,
     silk_rshift, silk_rshift_round, silk_sat16, silk_smlabb, silk_smlawb, silk_smmul, silk_smulbb,
     silk_smulwb,
@@ -123,8 +123,8 @@ fn div32_varq_agrees(op: i32, a: i32, b: i32, c: i32, said: i32) -> bool {
     }
     let q = silk_div32_varq(a, b, c);
     match q {
-        Quotient::Value(v) => op == 15 && v == said,
-        Quotient::ZeroDivisor => op == 16,
+        Some(v) => op == 15 && v == said,
+        None => op == 16,
     }
 }
 

@@ -5,7 +5,6 @@ use Prim.Native.Nat.{◌+◌, ◌*◌}
 use native.Mathlib.Omega.{arith}
 use lib.IntN.{ℤ, pos}
 use lib.ListN.{length, take, replicate}
-use Rattle.zint.specs.ReadLaws.{r_var}
 use Rattle.lists.specs.Fill.{overwritten}
 use Rattle.pitch_settings.specs.declared.Settings.{Settings}
 use Rattle.pitch_settings.specs.Settings.{settings_no, frame_length}
@@ -16,6 +15,9 @@ use Rattle.frame_signals.specs.Signals.{down_to_8khz, down_to_4khz}
 use Rattle.frame_signals.specs.SignalLaws.{take_overwritten}
 use Rattle.stage1.specs.Stage1.{stage1}
 use Rattle.silk_pitch_analysis.specs.declared.Verdict.{Verdict}
+use Rattle.std.specs.Prelude.{Result, Ok, Err, MatchResult}
+use Rattle.answers.specs.declared.NoPitch.{NoPitch}
+use Rattle.silk_pitch_analysis.specs.Steps.{verdict_without, verdict_from}
 use Rattle.silk_pitch_analysis.specs.Frame.{signal8, signal4, from_screen, staged}
 use Rattle.silk_pitch_analysis.specs.FrameLaws.{eight_length, four_length, at_12}
 use Rattle.silk_pitch_analysis.proofs.analyse_working.Goals as goal
@@ -89,6 +91,11 @@ stages-requires c =
     let f = four_front a.s.settings a.w.now c.args.s.analysed c.requires e c.frame_4khz.ensures in
     record { frame = c.requires; eight = ap length e ∙ eight_length a.s.settings a.w.now c.args.s.analysed c.requires; four = ap length f ∙ four_length a.s.settings a.w.now c.args.s.analysed c.requires }
 
+-- the verdict of the stages' answer
+said : (r : Result Verdict NoPitch) (v : Verdict) → MatchResult r (λ x. v ≡ x) (λ e. v ≡ verdict_without e) → v ≡ verdict_from r
+said (Ok x) v h = h
+said (Err e) v h = h
+
 pub returns : goal.returns
 unfolding staged
 returns c =
@@ -96,4 +103,4 @@ returns c =
     let e = eight_front a.s.settings a.w.now c.args.s.analysed c.requires c.source_filter.ensures c.frame_8khz.ensures in
     let f = four_front a.s.settings a.w.now c.args.s.analysed c.requires e c.frame_4khz.ensures in
     let run : List ℤ → List ℤ → ℤ → ℤ → Verdict = λ x y pl pc. from_screen a.s.settings a.w.now x y pl pc (stage1 y a.s.settings.nb a.s.settings.complexity a.s.settings.thres1).screen in
-    c.stages.ensures ∙ (λ i. run (e i) (f i) ((r_var c.ranges.prev_lag).val i) ((r_var c.ranges.prev_corr).val i))
+    said c.stages.result c.unwrap_or_else.result c.unwrap_or_else.ensures ∙ c.stages.ensures ∙ (λ i. run (e i) (f i) a.prev.lag a.prev.correlation)
