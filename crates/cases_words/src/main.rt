@@ -7,7 +7,8 @@ ghost use Rattle.std.specs.Int.Signed.{quot_z};
 ghost use Rattle.std.specs.Int.{w32};
 ghost use Rattle.std.proofs.Common.{SFits};
 
-use cases_io::{Tally, i16_at, i32_at, read_full, room, skip};
+use cases_io::{LIST_BYTES, Tally, i16_at, i32_at, read_full, skip};
+use rooms::room;
 use silk_macros::{
     silk_add_sat16, silk_add_sat32, silk_clz_frac, silk_clz32, silk_div32, silk_div32_16,
     silk_div32_varq, silk_limit_32, silk_lin2log, silk_lshift, silk_lshift_sat32, silk_mul,
@@ -209,7 +210,7 @@ fn replay_all<W: Write>(output: &mut W, bytes: &[u8]) -> io::Result<()> {
 }
 
 fn main(rt: HostRuntime) -> io::Result<()> {
-    let mut bytes = room();
+    let mut bytes = room::<u8, LIST_BYTES>(0);
     let n = read_full(&mut rt.stdin(), &mut bytes)?;
     replay_all(&mut rt.stdout(), &bytes[..n])
 }
