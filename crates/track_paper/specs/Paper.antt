@@ -1,5 +1,7 @@
 -- The track on paper (docs/SCOPE.md, Track): what the settings, the table as first lent and the deliveries decide, and nothing of a program's state. Definitions only.
-use Rattle.std.specs.Prelude.{ℕ, zero, suc, ◌+◌, ◌-◌, ◌*◌, ◌/◌, List, [], ◌∷◌, ◌++◌, cond, ℤ, pos, length, take, drop, ltb, eqb}
+use Rattle.std.specs.Prelude.{Result, Ok, Err, ℕ, zero, suc, ◌+◌, ◌-◌, ◌*◌, ◌/◌, List, [], ◌∷◌, ◌++◌, cond, ℤ, pos, length, take, drop, ltb, eqb}
+use Rattle.refusals.specs.declared.Refusal.TheVariants.{LongTrack}
+use Rattle.refusals.specs.Refusals.{refusal_number}
 use Rattle.pitch_settings.specs.declared.Settings.{Settings}
 use Rattle.pitch_settings.specs.Settings.{frame_length, hop_length}
 use Rattle.track_settings.specs.declared.TrackSettings.{TrackSettings}
@@ -10,24 +12,22 @@ use Rattle.silk_pitch_analysis.specs.Frame.{frame_row}
 use Rattle.track_paper.specs.declared.Prev.{Prev}
 use Rattle.track_paper.specs.declared.Limit.{Limit}
 use Rattle.pitch_table.specs.declared.Row.{Row}
-use Rattle.track_paper.specs.declared.TrackAnswer.{TrackAnswer}
-use Rattle.track_paper.specs.declared.TrackAnswer.TheVariants.{Accepted, Refused}
 
--- ---- answers
+-- ---- answers: the frames then done, or the refusal's number
 
--- an answer by its number, 0 where it is accepted, with the frames then done
-unfoldable pub answer_of : ℕ → ℕ → TrackAnswer
-answer_of n frames = cond (eqb n 0) (Accepted frames) (Refused n)
+-- an answer by its number, 0 where it is accepted
+unfoldable pub answer_of : ℕ → ℕ → Result ℕ ℕ
+answer_of n frames = cond (eqb n 0) (Ok frames) (Err n)
 
 -- an answer as one number: 0, or the refusal's
-abbrev pub answer_no : TrackAnswer → ℕ
-answer_no (Accepted frames) = 0
-answer_no (Refused n) = n
+abbrev pub answer_no : Result ℕ ℕ → ℕ
+answer_no (Ok frames) = 0
+answer_no (Err n) = n
 
 -- an answer as numbers: accepted is 0, with the frames done; a refusal is its number
-abbrev pub track_answer_numbers : TrackAnswer → List ℤ
-track_answer_numbers (Accepted frames) = pos 0 ∷ pos frames ∷ []
-track_answer_numbers (Refused n) = pos n ∷ []
+abbrev pub track_answer_numbers : Result ℕ ℕ → List ℤ
+track_answer_numbers (Ok frames) = pos 0 ∷ pos frames ∷ []
+track_answer_numbers (Err n) = pos n ∷ []
 
 -- ---- frames and rows
 
@@ -75,14 +75,14 @@ paper_numbers k x p (suc n) = paper_numbers k x p n ++ numbers (paper_row k x p 
 
 -- ---- deliveries
 
--- the limit of a track by itself: frames over `most_frames` are refused with 6
+-- the limit of a track by itself: frames over `most_frames` are refused, with 6
 abbrev pub track_limit : Limit
-track_limit = record { frames = most_frames; number = 6 }
+track_limit = record { frames = most_frames; refusal = LongTrack }
 
 -- the number of a refusal of delivery d after the samples j, or 0, by a limit on the frames; rows is how many whole rows the table has
 unfoldable pub paper_no : Limit → Settings → ℕ → List ℤ → List ℤ → ℕ
 paper_no l s rows j d =
-    cond (ltb l.frames (F s (length j + length d))) l.number
+    cond (ltb l.frames (F s (length j + length d))) (refusal_number l.refusal)
     (cond (ltb (F s (length j)) (F s (length j + length d))) (cond (ltb rows (F s (length j + length d))) 7 0) 0)
 
 -- J after the delivery
@@ -90,7 +90,7 @@ unfoldable pub joined_by : Limit → Settings → ℕ → List ℤ → List ℤ 
 joined_by l s rows j d = cond (eqb (paper_no l s rows j d) 0) (j ++ d) j
 
 -- what is said of it: accepted, with the frames then done, or refused with its number
-unfoldable pub paper_answer : Limit → Settings → ℕ → List ℤ → List ℤ → TrackAnswer
+unfoldable pub paper_answer : Limit → Settings → ℕ → List ℤ → List ℤ → Result ℕ ℕ
 paper_answer l s rows j d = answer_of (paper_no l s rows j d) (F s (length j + length d))
 
 -- J after a list of deliveries, and what is said of each
@@ -98,7 +98,7 @@ unfoldable pub joined_samples : Limit → Settings → ℕ → List ℤ → List
 joined_samples l s rows j [] = j
 joined_samples l s rows j (d ∷ ds) = joined_samples l s rows (joined_by l s rows j d) ds
 
-unfoldable pub paper_answers : Limit → Settings → ℕ → List ℤ → List (List ℤ) → List TrackAnswer
+unfoldable pub paper_answers : Limit → Settings → ℕ → List ℤ → List (List ℤ) → List (Result ℕ ℕ)
 paper_answers l s rows j [] = []
 paper_answers l s rows j (d ∷ ds) = paper_answer l s rows j d ∷ paper_answers l s rows (joined_by l s rows j d) ds
 

@@ -2,48 +2,44 @@
 #![tactic(auto)]
 
 ghost use Rattle.std.specs.Prelude.{◌≡◌};
+ghost use Rattle.refusals.specs.Refusals.{told};
 ghost use Rattle.track_paper.specs.Paper.{track_limit, answer_no};
 
 use pitch_table::MOST_FRAMES;
+use refusals::Refusal;
 
-// What a row leaves to the next: the lag of its last subframe, its correlation, and the type of its signal (2 voiced, 1 not; 0 before the first row).
-#[derive(Clone, Copy)]
+// What a row leaves to the next: the lag of its last subframe, its correlation, and the type of its signal (2 voiced, 1 not; 0 before the first row), a number, since a state that is handed
+// in can have any.
+#[derive(Clone, Copy, PartialEq, Eq)]
 pub struct Prev {
     pub lag: i32,
     pub correlation: i32,
     pub signal: i32,
 }
 
-// How many frames a track may have, and the number of the refusal of a delivery that would make more.
-#[derive(Clone, Copy)]
+// How many frames a track may have, and the refusal of a delivery that would make more.
+#[derive(Clone, Copy, PartialEq, Eq)]
 pub struct Limit {
     pub frames: usize,
-    pub number: usize,
+    pub refusal: Refusal,
 }
 
-// What is said of a start or a delivery: accepted, with the frames then done, or refused, with the refusal's number.
-#[derive(Clone, Copy)]
-pub enum TrackAnswer {
-    Accepted(usize),
-    Refused(usize),
-}
-
-// The limit of a track by itself: 4,096 frames, else refusal 6.
+// The limit of a track by itself: 4,096 frames.
 pub fn track_limit() -> Limit
     ensures { result ≡ track_limit }
 {
     Limit {
         frames: MOST_FRAMES,
-        number: 6,
+        refusal: Refusal::LongTrack,
     }
 }
 
-// An answer as one number: 0, or the refusal's.
-pub fn answer_number(a: TrackAnswer) -> usize
-    ensures { result ≡ answer_no a }
+// What was said of a start or a delivery, as one number: 0, or the refusal's.
+pub fn answer_number(answer: Result<usize, Refusal>) -> usize
+    ensures { result ≡ answer_no (told answer) }
 {
-    match a {
-        TrackAnswer::Accepted(_) => 0,
-        TrackAnswer::Refused(n) => n,
+    match answer {
+        Ok(_) => 0,
+        Err(refusal) => refusal.number(),
     }
 }

@@ -1,15 +1,12 @@
 -- Which deliveries a running track refuses, and with which number (docs/SCOPE.md, Refusals): from the settings and the counts of its state, and a limit on its frames. Definitions only.
 use Rattle.std.specs.Prelude.{ℕ, ◌+◌, ◌/◌, Bool, cond, ltb, leb, eqb, ℤ}
+use Rattle.refusals.specs.Refusals.{refusal_number}
 use Rattle.pitch_settings.specs.Settings.{frame_length}
 use Rattle.track_settings.specs.declared.TrackSettings.{TrackSettings}
 use Rattle.track_settings.specs.TrackSettings.{stored_settings, track_settings_no}
 use Rattle.pitch_table.specs.Row.{row_size}
 use Rattle.track_paper.specs.declared.Limit.{Limit}
 use Rattle.track_paper.specs.Paper.{F}
-
--- no slice has as many samples: each has two bytes
-abbrev pub slice_bound : ℕ
-slice_bound = 4611686018427387904
 
 -- the order of the refusals, or 0: the settings' number (1, 2, 3 or 11) comes before the limit's, that before 9, and 9 before 7, which comes only where there are new frames
 abbrev pub first_refusal : ℕ → ℕ → Bool → Bool → Bool → Bool → ℕ
@@ -19,4 +16,4 @@ first_refusal over wrong long full new short = cond (eqb wrong 0) (cond long ove
 unfoldable pub delivery_refusal : Limit → TrackSettings → ℤ → ℕ → ℕ → ℕ → ℕ → ℕ
 delivery_refusal l k type f h d n =
     let s = stored_settings k in
-    first_refusal l.number (track_settings_no k type) (ltb l.frames (f + F s (h + d))) (leb (frame_length s) h) (ltb 0 (F s (h + d))) (ltb (n / row_size) (f + F s (h + d)))
+    first_refusal (refusal_number l.refusal) (track_settings_no k type) (ltb l.frames (f + F s (h + d))) (leb (frame_length s) h) (ltb 0 (F s (h + d))) (ltb (n / row_size) (f + F s (h + d)))

@@ -1,119 +1,70 @@
-// Which deliveries a running track refuses: the frames in samples, the tests of a delivery and their order.
+// Which deliveries a running track refuses: the tests of a delivery, in their order.
 #![tactic(auto)]
 
-ghost use Rattle.std.specs.Prelude.{◌≡◌, ◌+◌, ◌/◌, ◌<◌, ◌≤◌, ltb, leb};
-ghost use Rattle.pitch_settings.specs.Settings.{settings_no, frame_length};
-ghost use Rattle.pitch_table.specs.Row.{row_size, most_frames};
-ghost use Rattle.track_paper.specs.Paper.{frame_count, F};
-ghost use Rattle.track_refusal.specs.Refusal.{slice_bound, first_refusal, delivery_refusal};
+ghost use Rattle.std.specs.Prelude.{◌≡◌, ◌+◌, ◌<◌, ◌≤◌, IfOk, MatchOption};
+ghost use Rattle.refusals.specs.Refusals.{number_told};
+ghost use Rattle.pitch_table.specs.Row.{most_frames};
+ghost use Rattle.track_paper.specs.Paper.{F};
+ghost use Rattle.track_refusal.specs.Refusal.{delivery_refusal};
 
-use pitch_settings::{Settings, frame_length, hop_length};
+mod framing;
+
+pub use framing::Framing;
+use pitch_settings::Analysed;
 use pitch_table::ROW_SIZE;
+use refusals::Refusal;
 use track_paper::Limit;
-use track_settings::{TrackSettings, stored_settings, track_settings_no};
+use track_settings::{AnalysedTrack, TrackSettings};
 
-// No slice has as many samples: each has two bytes.
-const SLICE_BOUND: usize = 4611686018427387904;
-
-// F(n): the frames of `len` samples, every `hop`, in n samples.
-pub fn frames_in(len: usize, hop: usize, n: usize) -> usize
-    requires { (0 < hop) × (hop ≤ len) }
-    ensures { result ≡ frame_count len hop n }
-{
-    if n < len {
-        return 0;
-    }
-    1 + (n - len) / hop
+// A delivery to a track, by the numbers that decide whether it is refused: those of the track's state, which can be wrong, and the sizes of what is lent.
+#[derive(Clone, Copy)]
+pub struct Delivery {
+    // the type of the signal before the track's next row
+    pub signal_type: i32,
+    // the frames that the track has done
+    pub frames: usize,
+    // the samples that it holds
+    pub count: usize,
+    // the samples that are delivered
+    pub samples: usize,
+    // the numbers of the table
+    pub numbers: usize,
 }
 
-// The order of the refusals, or 0: `wrong` is the settings' number, `over` the limit's, `long` stands for it and `full` for 9; 7 comes where there are new frames and the table is short.
-fn first_no(over: usize, wrong: usize, long: bool, full: bool, new: bool, short: bool) -> usize
-    ensures { result ≡ first_refusal over wrong long full new short }
-{
-    if wrong != 0 {
-        return wrong;
+impl Delivery {
+    // The frames that the delivery finishes, or None where the track would have over `most`.
+    fn new_frames(self, most: usize, s: Analysed) -> Option<usize>
+        requires { most ≤ most_frames }
+        ensures { MatchOption result (most < self.frames + F s.settings (self.count + self.samples)) (λ n. (n ≡ F s.settings (self.count + self.samples)) × (self.frames + n ≤ most)) }
+    {
+        let n = self.count.checked_add(self.samples)?;
+        let new = Framing::from(s).frames_in(n);
+        if self.frames > most {
+            return None;
+        }
+        if new > most - self.frames {
+            return None;
+        }
+        Some(new)
     }
-    if long {
-        return over;
-    }
-    if full {
-        return 9;
-    }
-    if new & short {
-        return 7;
-    }
-    0
-}
 
-// Whether d samples more make over `most` frames.
-fn is_long(most: usize, s: Settings, frames: usize, count: usize, d: usize) -> bool
-    requires { (most ≤ most_frames) × (settings_no s ≡ 0) × (d < slice_bound) }
-    ensures { result ≡ ltb most (frames + F s (count + d)) }
-{
-    if frames > most {
-        return true;
+    // The track's settings as analysed ones, or the refusal of the delivery: that of the settings (1, 2, 3 or 11), the limit's, 9, or 7 where there are new frames and the table is short.
+    pub fn check(self, limit: Limit, k: TrackSettings) -> Result<AnalysedTrack, Refusal>
+        requires { limit.frames ≤ most_frames }
+        ensures number { number_told result ≡ delivery_refusal limit k self.signal_type self.frames self.count self.samples self.numbers }
+        ensures settings { IfOk result (λ a. a.settings ≡ k) }
+    {
+        let track = k.analysed(self.signal_type)?;
+        let s = track.stored();
+        let Some(new) = self.new_frames(limit.frames, s) else {
+            return Err(limit.refusal);
+        };
+        if self.count >= s.frame_length() {
+            return Err(Refusal::Malformed);
+        }
+        if new > 0 && self.frames + new > self.numbers / ROW_SIZE {
+            return Err(Refusal::ShortTable);
+        }
+        Ok(track)
     }
-    if count > SLICE_BOUND {
-        return true;
-    }
-    let len = frame_length(s);
-    let hop = hop_length(s);
-    let new = frames_in(len, hop, count + d);
-    if new > most - frames {
-        return true;
-    }
-    false
-}
-
-// Whether a state holds N samples or more.
-fn is_full(s: Settings, count: usize) -> bool
-    requires { settings_no s ≡ 0 }
-    ensures { result ≡ leb (frame_length s) count }
-{
-    if count >= frame_length(s) {
-        return true;
-    }
-    false
-}
-
-// Whether a table has fewer whole rows than frames.
-fn is_short(frames: usize, numbers: usize) -> bool
-    ensures { result ≡ ltb (numbers / row_size) frames }
-{
-    if frames > numbers / ROW_SIZE {
-        return true;
-    }
-    false
-}
-
-// The number of the refusal, or 0, of a delivery of d samples to a track of these settings, with this type of the signal before its next row, that has done `frames` and holds `count`
-// samples, with a table of so many numbers.
-pub fn delivery_refusal(
-    limit: Limit,
-    k: TrackSettings,
-    signal_type: i32,
-    frames: usize,
-    count: usize,
-    d: usize,
-    numbers: usize,
-) -> usize
-    requires { (limit.frames ≤ most_frames) × (d < slice_bound) }
-    ensures { result ≡ delivery_refusal limit k signal_type frames count d numbers }
-{
-    let over = limit.number;
-    let most = limit.frames;
-    let wrong = track_settings_no(k, signal_type);
-    if wrong != 0 {
-        return first_no(over, wrong, false, false, false, false);
-    }
-    let s = stored_settings(k);
-    let full = is_full(s, count);
-    if is_long(most, s, frames, count, d) {
-        return first_no(over, 0, true, full, false, false);
-    }
-    let len = frame_length(s);
-    let hop = hop_length(s);
-    let new = frames_in(len, hop, count + d);
-    let short = is_short(frames + new, numbers);
-    first_no(over, 0, false, full, new > 0, short)
 }
