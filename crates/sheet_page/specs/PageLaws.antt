@@ -1,7 +1,7 @@
 -- What a page that is a sheet says, place by place, and the steps by which the code reads it.
-use Rattle.std.specs.Prelude.{◌≡◌, Bool, ◌&&◌, ℕ, zero, suc, ◌+◌, ◌-◌, ◌*◌, ◌≤◌, ◌<◌, ℤ, pos, get_or, Option, Some, None}
+use Rattle.std.specs.Prelude.{◌≡◌, Bool, ◌&&◌, ℕ, zero, suc, ◌+◌, ◌-◌, ◌*◌, ◌≤◌, ◌<◌, ℤ, pos, get_or, take, drop, count_by, ◌==◌, Option, Some, None}
 use Rattle.std.proofs.Math.Path.{refl, sym, ap}
-use Rattle.std.proofs.Common.{◌∙◌, add-one, length-append, of_z}
+use Rattle.std.proofs.Common.{◌∙◌, ap₂, add-one, length-drop, length-append, of_z}
 use Rattle.std.proofs.Math.Bool.{true, false, cond}
 use Rattle.std.proofs.lemmas.Bool.{false≢true}
 use mathlib.Core.List.{List, [], ◌∷◌, ◌++◌, append_assoc}
@@ -11,6 +11,8 @@ use borrow.Author.Tests.{eqb-true, eqb-false, leb-true, eq-eqb, ne_eqb, le-leb}
 use Rattle.std.proofs.Math.Dec.{eqb, leb}
 use Rattle.std.proofs.Math.ListN.{length}
 use Rattle.std.proofs.Math.Seq.{sets}
+use Rattle.std.proofs.lemmas.List.{get_or-drop}
+use Rattle.std.proofs.lemmas.List.Sums.{sum_by_more}
 use Rattle.std.specs.Int.{w32}
 use Rattle.best.specs.BestLaws.{every_true, every_false}
 use Rattle.lists.specs.Fill.{tabulate}
@@ -114,6 +116,18 @@ module _ (p : List ℕ) where
       let m : i + 1 + d ≡ n = omega arith in
       let l : voiced_before p (i + 1) ≤ voiced_before p n = rw m at (grows (i + 1) d) in
       omega (arith, l, voiced_yes i e)
+
+  -- they number the verdicts that are 0, among the bytes that hold them
+  pub voiced_counted : (n : ℕ) → verdicts_at + n ≤ length p → count_by (λ v. v == 0) (take n (drop verdicts_at p)) ≡ voiced_before p n
+  unfolding voiced_before verdict_in
+  voiced_counted zero h = refl
+  voiced_counted (suc n) h =
+      let vs = drop verdicts_at p in
+      let l : n < length vs = omega (arith, length-drop verdicts_at p) in
+      let e : suc n ≡ n + 1 = omega arith in
+      ap (λ (m : ℕ). count_by (λ v. v == 0) (take m vs)) e
+      ∙ sum_by_more (λ v. cond (v == 0) 1 0) vs n 0 l
+      ∙ ap₂ (λ (m v : ℕ). m + cond (v == 0) 1 0) (voiced_counted n (omega arith)) (get_or-drop verdicts_at p n 0)
 
   pub voiced_in_le : voiced_in p ≤ frames_in p
   unfolding voiced_in

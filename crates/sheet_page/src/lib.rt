@@ -54,13 +54,10 @@ fn voiced_in(page: &[u8], frames: usize) -> usize
     requires { verdicts_at + frames ≤ length page.now }
     ensures { result ≡ voiced_before page.now frames }
 {
-    let mut voiced = 0;
-    for i in 0..frames {
-        if page[VERDICTS_AT + i] == 0 {
-            voiced += 1;
-        }
-    }
-    voiced
+    page[VERDICTS_AT..VERDICTS_AT + frames]
+        .iter()
+        .filter(|verdict| **verdict == 0)
+        .count()
 }
 
 // A page whose sections have the sizes of a sheet's, with what they say: `Sections::of` makes them. Some row may still be one that no sheet has.
