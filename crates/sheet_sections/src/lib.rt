@@ -7,7 +7,7 @@ ghost use Rattle.sheet_bytes.specs.Bytes.{signed};
 ghost use Rattle.sheet_rows.specs.Rows.{FieldsFit, row_holds};
 ghost use Rattle.lists.specs.Put.{Put};
 ghost use Rattle.sheet_sections.specs.declared.Section.TheVariants.{Pairs};
-ghost use Rattle.sheet_sections.specs.Sheet.{setting_bytes, frames_at, sheet_length, setting_numbers, row_bytes, section_entries, section, setting_entries, concat, rows_of, sheet};
+ghost use Rattle.sheet_sections.specs.Sheet.{setting_bytes, frames_at, sheet_length, setting_numbers, has_entry, row_bytes, section_entries, section, setting_entries, concat, rows_of, sheet};
 
 use pitch_settings::Held;
 use pitch_table::{MOST_FRAMES, Row, get_row};
@@ -78,19 +78,26 @@ pub enum Section {
     Correlations,
 }
 
+impl Section {
+    // Whether the row has an entry in the section: each has a verdict, a voiced one a pair and a correlation.
+    fn has_entry(self, r: Row) -> bool
+        ensures { result ≡ has_entry self r }
+    {
+        match self {
+            Section::Verdicts => true,
+            Section::Pairs | Section::Correlations => r.verdict == 0,
+        }
+    }
+}
+
 // How many of the first rows are voiced.
 pub fn voiced_rows(table: &[i32], frames: usize) -> usize
     requires { frames * row_size ≤ length table.now }
     ensures { result ≡ length (section_entries Pairs (rows_of table.now frames)) }
 {
-    let mut voiced = 0;
-    for i in 0..frames {
-        let r = get_row(table, i);
-        if r.verdict == 0 {
-            voiced += 1;
-        }
-    }
-    voiced
+    (0..frames)
+        .filter(|i| Section::Pairs.has_entry(get_row(table, *i)))
+        .count()
 }
 
 // The bytes of a sheet of that many frames, so many of them voiced.
@@ -142,24 +149,20 @@ fn put_row_bytes(page: &mut [u8], at: usize, which: Section, r: Row) -> usize
     requires { FieldsFit r × (at + length (row_bytes which r) ≤ length page.old) }
     ensures { Put page.old at (row_bytes which r) result page.new }
 {
-    let verdict = r.verdict;
+    if !which.has_entry(r) {
+        return at;
+    }
     match which {
         Section::Verdicts => {
-            page[at] = verdict as u8;
+            page[at] = r.verdict as u8;
             at + VERDICT_BYTES
         }
         Section::Pairs => {
-            if verdict != 0 {
-                return at;
-            }
             put_u16(page, at, r.index as u16);
             page[at + INDEX_BYTES] = r.contour as u8;
             at + PAIR_BYTES
         }
         Section::Correlations => {
-            if verdict != 0 {
-                return at;
-            }
             put_i32(page, at, r.correlation);
             at + CORRELATION_BYTES
         }
