@@ -176,7 +176,7 @@ fn stages(w: &[i16], e: &[i16], f: &[i16], s: Settings, prev: Previous) -> Resul
     requires { (settings_no s ≡ 0) × ((length w.now ≡ frame_length s) × ((length e.now ≡ (20 + 5 * s.nb) * 8) × (length f.now ≡ (20 + 5 * s.nb) * 4))) }
     ensures { verdict_from result ≡ from_screen s w.now e.now f.now prev.lag prev.correlation (stage1 f.now s.nb s.complexity s.thres1).screen }
 {
-    let kept = search_stage1(f, s.nb, s.complexity, s.thres1)?;
+    let kept = search_stage1(f, s)?;
     second_stage(w, e, kept.as_slice(), s, prev)
 }
 
