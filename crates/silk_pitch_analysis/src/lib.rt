@@ -106,7 +106,7 @@ fn last_stage(
         return Ok(voiced(fs_khz, lag, contour, correlation));
     }
     let scaled = lag * fs_khz / 8;
-    let found = search_stage3(w, scaled, s.nb, s.complexity, fs_khz).ok_or(NoPitch::ZeroDivisor)?;
+    let found = search_stage3(w, scaled, s).ok_or(NoPitch::ZeroDivisor)?;
     Ok(voiced(fs_khz, found.lag, found.contour, correlation))
 }
 
