@@ -95,7 +95,7 @@ fn last_stage(
         return Ok(voiced(fs_khz, lag, contour, correlation));
     }
     let scaled = lag * fs_khz / 8;
-    let found = search_stage3(w, scaled, s.nb, s.complexity, fs_khz).ok_or(NoPitch::ZeroDivisor)?;
+    let found = search_stage3(w, scaled, s).ok_or(NoPitch::ZeroDivisor)?;
     Ok(voiced(fs_khz, found.lag, found.contour, correlation))
 }
 
@@ -177,7 +177,7 @@ fn stages(w: &[i16], e: &[i16], f: &[i16], s: Analysed, prev: Previous) -> Resul
     requires four { length f.now ≡ (20 + 5 * s.settings.nb) * 4 }
     ensures { verdict_from result ≡ from_screen s.settings w.now e.now f.now prev.lag prev.correlation (stage1 f.now s.settings.nb s.settings.complexity s.settings.thres1).screen }
 {
-    let kept = search_stage1(f, s.settings.nb, s.settings.complexity, s.settings.thres1)?;
+    let kept = search_stage1(f, s.settings)?;
     second_stage(w, e, kept.as_slice(), s, prev)
 }
 

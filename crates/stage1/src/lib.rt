@@ -16,6 +16,7 @@ mod candidates;
 
 use answers::NoPitch;
 pub use candidates::Candidates;
+use pitch_settings::Settings;
 use silk_macros::{silk_div32_varq, silk_smlawb, silk_smulbb, silk_smulwb};
 use silk_sigproc::{energy_of_40, silk_pitch_xcorr, square};
 use silk_sort::silk_insertion_sort_decreasing_int16;
@@ -204,19 +205,14 @@ fn select(
 }
 
 // Stage 1: the lags that go on, or that the frame is unvoiced, or a zero divisor.
-pub fn search_stage1(
-    frame_4khz: &[i16],
-    nb_subfr: usize,
-    complexity: usize,
-    search_thres1_q16: i32,
-) -> Result<Candidates, NoPitch>
-    requires { Handed1 frame_4khz.now nb_subfr complexity }
-    ensures value { answer_of result ≡ stage1 frame_4khz.now nb_subfr complexity search_thres1_q16 }
-    ensures screen_number { screen_numbers (answer_of result).screen ≡ answer_numbers (screen_number frame_4khz.now nb_subfr) [] }
+pub fn search_stage1(frame_4khz: &[i16], s: Settings) -> Result<Candidates, NoPitch>
+    requires { Handed1 frame_4khz.now s.nb s.complexity }
+    ensures value { answer_of result ≡ stage1 frame_4khz.now s.nb s.complexity s.thres1 }
+    ensures screen_number { screen_numbers (answer_of result).screen ≡ answer_numbers (screen_number frame_4khz.now s.nb) [] }
 {
-    let mut c_combined = scores(frame_4khz, nb_subfr).ok_or(NoPitch::ZeroDivisor)?;
+    let mut c_combined = scores(frame_4khz, s.nb).ok_or(NoPitch::ZeroDivisor)?;
     let mut d_srch = [0usize; 8];
-    let length_d_srch = search_length(complexity);
+    let length_d_srch = search_length(s.complexity);
     silk_insertion_sort_decreasing_int16(&mut c_combined, &mut d_srch, CSTRIDE_4KHZ, length_d_srch);
-    select(&c_combined, &d_srch, length_d_srch, search_thres1_q16)
+    select(&c_combined, &d_srch, length_d_srch, s.thres1)
 }

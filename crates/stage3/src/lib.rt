@@ -10,6 +10,7 @@ ghost use Rattle.stage3.specs.Pick.{answer_of, first_tried, last_tried, biased, 
 ghost use Rattle.stage3.specs.Stage3.{sat_sum, energy_target, stage3, found_numbers, stage3_verdict, stage3_values, Handed};
 ghost use Rattle.stage3.specs.Search.{with_pair, at3, array_choice, Scanned, TriedPair, BestOfFirst, AfterFirst};
 
+use pitch_settings::Settings;
 use silk_macros::{silk_add_sat32, silk_div32_16, silk_div32_varq, silk_smulwb};
 use silk_sigproc::energy_from;
 use stage3_arrays::{silk_p_ana_calc_corr_st3, silk_p_ana_calc_energy_st3};
@@ -196,31 +197,25 @@ fn target_energy(frame: &[i16], nb_subfr: usize, fs_khz: usize) -> i32
 }
 
 // Stage 3 for a working frame and the winner of stage 2 scaled to its rate: the pair of a lag and a contour, and none where a divisor that is reached is zero.
-pub fn search_stage3(
-    frame: &[i16],
-    lag: usize,
-    nb_subfr: usize,
-    complexity: usize,
-    fs_khz: usize,
-) -> Option<LagContour>
-    requires { Handed frame.now fs_khz nb_subfr complexity lag }
-    ensures value { answer_of result ≡ stage3 frame.now fs_khz nb_subfr complexity lag }
-    ensures numbers { found_numbers (answer_of result) ≡ answer_numbers (stage3_verdict frame.now fs_khz nb_subfr complexity lag) (stage3_values frame.now fs_khz nb_subfr complexity lag) }
+pub fn search_stage3(frame: &[i16], lag: usize, s: Settings) -> Option<LagContour>
+    requires { Handed frame.now s.rate s.nb s.complexity lag }
+    ensures value { answer_of result ≡ stage3 frame.now s.rate s.nb s.complexity lag }
+    ensures numbers { found_numbers (answer_of result) ≡ answer_numbers (stage3_verdict frame.now s.rate s.nb s.complexity lag) (stage3_values frame.now s.rate s.nb s.complexity lag) }
 {
-    let first = start_lag(fs_khz, lag);
-    let cross_corr_st3 = silk_p_ana_calc_corr_st3(frame, first, nb_subfr, complexity, fs_khz);
-    let energies_st3 = silk_p_ana_calc_energy_st3(frame, first, nb_subfr, complexity, fs_khz);
+    let first = start_lag(s.rate, lag);
+    let cross_corr_st3 = silk_p_ana_calc_corr_st3(frame, first, s.nb, s.complexity, s.rate);
+    let energies_st3 = silk_p_ana_calc_energy_st3(frame, first, s.nb, s.complexity, s.rate);
     let contour_bias_q15 = silk_div32_16(1638, lag as i32);
-    let energy_target = target_energy(frame, nb_subfr, fs_khz);
+    let energy_target = target_energy(frame, s.nb, s.rate);
     scan_lags(
         &cross_corr_st3,
         &energies_st3,
         energy_target,
         contour_bias_q15,
         PairSearch {
-            fs: fs_khz,
-            nb: nb_subfr,
-            complexity,
+            fs: s.rate,
+            nb: s.nb,
+            complexity: s.complexity,
             lag,
         },
     )

@@ -33,10 +33,7 @@ module _ (s : Settings) (f : List ℤ) (h : settings_no s ≡ 0) where
   lags_kept : Kept (kept_lags f s.nb s.complexity s.thres1)
   lags_kept = record { few = kept_few f s.nb s.complexity s.thres1 few; low = kept_low f s.nb s.complexity s.thres1 few; high = kept_high f s.nb s.complexity s.thres1 few }
 
-  module _ (r : Result Candidates NoPitch) (g : SFits w32 s.thres1) (e : answer_of r ≡ stage1 f s.nb s.complexity (to_z w32 (of_z w32 s.thres1))) where
-    answer : answer_of r ≡ stage1 f s.nb s.complexity s.thres1
-    answer = e ∙ ap (stage1 f s.nb s.complexity) (r_var g).val
-
+  module _ (r : Result Candidates NoPitch) (answer : answer_of r ≡ stage1 f s.nb s.complexity s.thres1) where
     -- what goes on
     front : (k : Candidates) → r ≡ Ok k → take k.count k.lags ≡ kept_lags f s.nb s.complexity s.thres1
     front k q =
@@ -62,14 +59,14 @@ returns-in_err-kept c =
     let a = c.args in
     let r = c.search_stage1 in
     let p = err_from_is_err_and c.from_residual.result c.from_residual.ensures.1 in
-    rw (p.1, p.2) (without a.s.settings a.f.now c.args.s.analysed r.result (search zneeds) r.ensures.value a.w.now a.e.now a.prev.lag a.prev.correlation _ c.in_err-kept.was)
+    rw (p.1, p.2) (without a.s.settings a.f.now c.args.s.analysed r.result r.ensures.value a.w.now a.e.now a.prev.lag a.prev.correlation _ c.in_err-kept.was)
 
 pub second_stage-requires : goal.second_stage-requires
 second_stage-requires c =
     let a = c.args in
     let p = c.requires in
     let r = c.search_stage1 in
-    let e = c.as_slice.ensures ∙ front a.s.settings a.f.now a.s.analysed r.result (search zneeds) r.ensures.value _ c.in_ok-kept.was in
+    let e = c.as_slice.ensures ∙ front a.s.settings a.f.now a.s.analysed r.result r.ensures.value _ c.in_ok-kept.was in
     record { frame = p.frame; eight = p.eight; kept = subst Kept (sym e) (lags_kept a.s.settings a.f.now a.s.analysed) }
 
 pub returns : goal.returns
@@ -77,7 +74,7 @@ unfolding second_stage
 returns c =
     let a = c.args in
     let r = c.search_stage1 in
-    let e = c.as_slice.ensures ∙ front a.s.settings a.f.now c.args.s.analysed r.result (search zneeds) r.ensures.value _ c.in_ok-kept.was in
+    let e = c.as_slice.ensures ∙ front a.s.settings a.f.now c.args.s.analysed r.result r.ensures.value _ c.in_ok-kept.was in
     c.second_stage.ensures
     ∙ (λ i. from_winner a.s.settings a.w.now (stage2 a.e.now (e i) a.s.settings.rate a.s.settings.nb a.s.settings.complexity a.s.settings.thres2 a.prev.lag a.prev.correlation))
-    ∙ goes a.s.settings a.f.now c.args.s.analysed r.result (search zneeds) r.ensures.value a.w.now a.e.now a.prev.lag a.prev.correlation _ c.in_ok-kept.was
+    ∙ goes a.s.settings a.f.now c.args.s.analysed r.result r.ensures.value a.w.now a.e.now a.prev.lag a.prev.correlation _ c.in_ok-kept.was

@@ -4,7 +4,8 @@ use Rattle.std.proofs.lemmas.Result.{err_from_is_err_and}
 use Rattle.answers.specs.declared.NoPitch.{NoPitch}
 use Rattle.answers.specs.declared.NoPitch.TheVariants.{ZeroDivisor as ByZero}
 use Rattle.answers.specs.Answer.{answer_numbers}
-use Rattle.zint.specs.ReadLaws.{r_var}
+use Rattle.std.specs.Int.{w32}
+use mir.Val.{to_z, of_z}
 use Rattle.stage1.specs.declared.candidates.Candidates.{Candidates}
 use Rattle.stage1.specs.Stage1.{Stage1, zero1, scores1, search_length, answer_of, stage1, screen_numbers, screen_number}
 use Rattle.stage1.specs.AnswerLaws.{screen_in_numbers}
@@ -35,7 +36,7 @@ pub returns-in_err-c_combined : goal.returns-in_err-c_combined
 returns-in_err-c_combined c =
     let a = c.args in
     let p = err_from_is_err_and c.from_residual.result c.from_residual.ensures.1 in
-    let e : answer_of c.from_residual.result ≡ stage1 a.frame_4khz.now a.nb_subfr a.complexity a.search_thres1_q16 =
+    let e : answer_of c.from_residual.result ≡ stage1 a.frame_4khz.now a.s.nb a.s.complexity a.s.thres1 =
     rw (p.1, p.2) (no_scores _ _ _ _ c.scores.result c.scores.ensures (sym c.ok_or.ensures.value ∙ c.in_err-c_combined.was)) in
     let n = and_numbers c.from_residual.result _ _ _ _ e in
     record { value = n.0; screen_number = n.1 }
@@ -63,8 +64,9 @@ returns c =
     let k = length_few _ c.requires.complexity c.search_length-length_d_srch.ensures in
     let o = c.silk_insertion_sort_decreasing_int16.ensures in
     let x = some_scores _ _ c.scores.result _ c.scores.ensures (sym c.ok_or.ensures.value ∙ c.in_ok-c_combined.was) in
+    let thres1 : to_z w32 (of_z w32 c.args.s.thres1) ≡ c.args.s.thres1 = search zneeds in
     let n = and_numbers c.select.result _ _ _ _
     (c.select.ensures
-    ∙ ap (selected _ _ _) (r_var c.ranges.search_thres1_q16).val
+    ∙ ap (selected _ _ _) thres1
     ∙ stage1_goes _ _ _ _ _ _ x.1 o.values o.indices k _ _ (length_some _ _ c.search_length-length_d_srch.ensures) c.search_length-length_d_srch.ensures x.0) in
     record { value = n.0; screen_number = n.1 }

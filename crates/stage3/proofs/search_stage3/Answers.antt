@@ -56,7 +56,7 @@ returns c =
     let a = c.args in
     let t = c.target_energy-energy_target in
     let b = and_numbers _ _ _ _ _ (answer_of c.scan_lags.result)
-    (array_pick a.frame.now (record { fs = a.fs_khz; nb = a.nb_subfr; complexity = a.complexity; lag = a.lag }) c.requires c.scan_lags.ensures
+    (array_pick a.frame.now (record { fs = a.s.rate; nb = a.s.nb; complexity = a.s.complexity; lag = a.lag }) c.requires c.scan_lags.ensures
     c.start_lag-first.ensures c.silk_p_ana_calc_corr_st3-cross_corr_st3.ensures c.silk_p_ana_calc_energy_st3-energies_st3.ensures (r_got w32 t.type_inv t.ensures).val) in
     record { value = b.0; numbers = b.1 }
 
