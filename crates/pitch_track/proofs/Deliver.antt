@@ -1,4 +1,4 @@
--- The answers of `start_call` and `deliver_call` in numbers, and the two cases of `deliver_call`.
+-- The number that `start_call` says, the answer of `deliver_call` in numbers, and the two cases of `deliver_call`.
 use Rattle.std.specs.Prelude.{◌≡◌, refl, Ok, Err, Bool, true, false, cond, ℕ, ◌+◌, ◌-◌, ◌*◌, eqb, ℤ, pos, List, [], ◌∷◌, ◌++◌, length, take, drop}
 use Rattle.std.proofs.Common.{sym, ap, ◌∙◌, arith, eq-eqb, ne_eqb, eqb-true, length-drop, take_all}
 use Rattle.track_settings.specs.declared.TrackSettings.{TrackSettings}
@@ -10,7 +10,7 @@ use Rattle.pitch_track.specs.declared.Answered.{Answered}
 use Rattle.track_paper.specs.declared.Prev.{Prev}
 use Rattle.pitch_settings.specs.Settings.{hop_length}
 use Rattle.track_paper.specs.Paper.{F, answer_of, answer_no, track_answer_numbers, previous, paper_numbers}
-use Rattle.pitch_track.specs.Step.{padded, Said, start_no, start_call, pending, delivery_no, frames_after, DeliveryOutcome, delivery_outcome, accepted_delivery, deliver_call}
+use Rattle.pitch_track.specs.Step.{padded, start_no, start_call, pending, delivery_no, frames_after, DeliveryOutcome, delivery_outcome, accepted_delivery, deliver_call}
 use Rattle.pitch_table.specs.Row.{row_size}
 
 -- the number that `start` says is that of the settings with the type 0
@@ -30,10 +30,6 @@ answer_in_numbers n f = by (eqb n 0) refl
     by : (b : Bool) → eqb n 0 ≡ b → track_answer_numbers (cond b (Ok f) (Err n)) ≡ pos n ∷ cond b (pos f ∷ []) []
     by true e = ap (λ (k : ℕ). pos k ∷ pos f ∷ []) (sym (eqb-true n 0 e))
     by false e = refl
-
-pub started : (s : TrackSettings) (r : Said) → r ≡ start_call s → (r ≡ start_call s) × (track_answer_numbers r.answer ≡ answer_numbers (start_no s) (pos 0 ∷ []))
-unfolding start_call
-started s r e = (e, ap (λ (q : Said). track_answer_numbers q.answer) e ∙ answer_in_numbers (start_no s) 0)
 
 module _ (tr : Track) (t d : List ℤ) where
   answer_is : (deliver_call tr t d).delivered.answer ≡ answer_of (delivery_no tr t d) (frames_after tr d)

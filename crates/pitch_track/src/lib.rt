@@ -115,8 +115,8 @@ impl Track {
         }
     }
 
-    // Takes a delivery of samples, writes the row of each frame that it finishes into the table, and hands back the advanced track; refused with 1 to 3, 11, 6, 9 or 7, in this order, it changes
-    // nothing.
+    // Takes a delivery of samples, writes the row of each frame that it finishes into the table, and hands back the advanced track, since a state goes in and comes back by value; refused with
+    // 1 to 3, 11, 6, 9 or 7, in this order, it changes nothing.
     pub fn deliver(mut self, samples: &[i16], table: &mut [i32]) -> Answered
         ensures table_after { delivery_outcome result table.new ≡ deliver_call self table.old samples.now }
         ensures answer_value { track_answer_numbers (told result.answer) ≡ answer_numbers (delivery_no self table.old samples.now) (pos (frames_after self samples.now) ∷ []) }
