@@ -1,4 +1,4 @@
-// The samples that a track holds, and then those delivered: one list in two parts.
+// The samples from which the next frames are taken: those that a track holds, and then those delivered, one list in two parts.
 ghost use Rattle.std.specs.Prelude.{◌≡◌, ◌++◌, ◌+◌, ◌≤◌, length, take, drop};
 ghost use Rattle.pitch_settings.specs.Settings.{frame_length, longest_frame};
 ghost use Rattle.silk_pitch_analysis.specs.Frame.{frame_row};
@@ -9,6 +9,7 @@ use pitch_table::Row;
 use silk_pitch_analysis::frame_row;
 use track_paper::Prev;
 
+// What is not yet analysed: the samples held, and those delivered, which follow them.
 #[derive(Clone, Copy)]
 pub struct Pending<'a> {
     pub held: &'a [i16],
