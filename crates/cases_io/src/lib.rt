@@ -22,12 +22,8 @@ pub struct Tally {
     pub total: u64,
 }
 
-// Room for a list of cases. The `ensures` gives only the length, so that nothing unfolds the zeros.
-pub fn room() -> [u8; 1048576]
-    ensures { 1048576 ≡ length result }
-{
-    [0; 1048576]
-}
+// The bytes of a list of cases at most.
+pub const LIST_BYTES: usize = 1048576;
 
 // Reads until `buf` is full or the input ends, and returns how many bytes it put at the start of `buf`. On an empty `buf` it makes no call.
 pub fn read_full<R: Read>(input: &mut R, buf: &mut [u8]) -> io::Result<usize>

@@ -6,7 +6,8 @@
 
 ghost use Rattle.std.specs.Prelude.{◌<◌};
 
-use cases_io::{Tally, load_i16s, load_i32s, read_full, room, same_i16s, same_i32s, skip, u16_at};
+use cases_io::{LIST_BYTES, Tally, load_i16s, load_i32s, read_full, same_i16s, same_i32s, skip, u16_at};
+use rooms::room;
 use silk_resampler::{
     silk_resampler_down2, silk_resampler_down2_3, silk_resampler_private_ar2, source_filter,
 };
@@ -106,7 +107,7 @@ fn replay<W: Write>(output: &mut W, bytes: &[u8], kind: u16, name: &[u8]) -> io:
 }
 
 fn main(rt: HostRuntime) -> io::Result<()> {
-    let mut bytes = room();
+    let mut bytes = room::<u8, LIST_BYTES>(0);
     let n = read_full(&mut rt.stdin(), &mut bytes)?;
     let mut output = rt.stdout();
     replay(&mut output, &bytes[..n], 0, b"silk_resampler_down2")?;

@@ -6,7 +6,8 @@
 
 ghost use Rattle.std.specs.Prelude.{◌≡◌, ◌≤◌, ◌<◌, length};
 
-use cases_io::{Tally, i32_at, load_i16s, read_full, room, same_i32s, skip, u16_at};
+use cases_io::{LIST_BYTES, Tally, i32_at, load_i16s, read_full, same_i32s, skip, u16_at};
+use rooms::room;
 use silk_sigproc::{silk_inner_prod_aligned, silk_pitch_xcorr, silk_sum_sqr_shift};
 use std::io;
 use std::io::Write;
@@ -133,7 +134,7 @@ fn replay<W: Write>(output: &mut W, bytes: &[u8], group: usize, name: &[u8]) -> 
 }
 
 fn main(rt: HostRuntime) -> io::Result<()> {
-    let mut bytes = room();
+    let mut bytes = room::<u8, LIST_BYTES>(0);
     let n = read_full(&mut rt.stdin(), &mut bytes)?;
     let list = &bytes[..n];
     let mut output = rt.stdout();

@@ -4,7 +4,8 @@
 
 ghost use Rattle.std.specs.Prelude.{◌≡◌, ◌+◌, ◌*◌, ◌<◌, min, length};
 
-use cases_io::{Tally, load_i16s, read_full, room, same_i16s, skip, u32_at};
+use cases_io::{LIST_BYTES, Tally, load_i16s, read_full, same_i16s, skip, u32_at};
+use rooms::room;
 use silk_sort::silk_insertion_sort_decreasing_int16;
 use std::io;
 use std::io::Write;
@@ -63,7 +64,7 @@ fn replay<W: Write>(output: &mut W, bytes: &[u8]) -> io::Result<()> {
 }
 
 fn main(rt: HostRuntime) -> io::Result<()> {
-    let mut bytes = room();
+    let mut bytes = room::<u8, LIST_BYTES>(0);
     let n = read_full(&mut rt.stdin(), &mut bytes)?;
     replay(&mut rt.stdout(), &bytes[..n])
 }

@@ -8,7 +8,8 @@ ghost use Rattle.answers.specs.Answer.{answer_numbers};
 ghost use Rattle.cases_io.specs.Little.{u32_at, i32_at};
 ghost use Rattle.speech_threshold.specs.Threshold.{threshold_call, threshold_answer_numbers};
 
-use cases_io::{Tally, i32_at, read_full, room, skip, u32_at};
+use cases_io::{LIST_BYTES, Tally, i32_at, read_full, skip, u32_at};
+use rooms::room;
 use speech_threshold::{ThresholdAnswer, speech_threshold};
 use std::io;
 use std::io::Write;
@@ -55,7 +56,7 @@ fn replay<W: Write>(output: &mut W, bytes: &[u8], kind: i32, name: &[u8]) -> io:
 }
 
 fn main(rt: HostRuntime) -> io::Result<()> {
-    let mut bytes = room();
+    let mut bytes = room::<u8, LIST_BYTES>(0);
     let n = read_full(&mut rt.stdin(), &mut bytes)?;
     let mut output = rt.stdout();
     replay(&mut output, &bytes[..n], 0, b"in range:")?;

@@ -12,10 +12,11 @@ use crate::least;
 use cases_io::{
     byte_at, i32_at, load_i16s, same_i16s, same_settings, settings_at, skip, u32_at, usize_at,
 };
-use pitch_recording::{RECORDING_SAMPLES, sample_room};
+use pitch_recording::RECORDING_SAMPLES;
 use pitch_settings::LONGEST_FRAME;
 use pitch_table::{MOST_FRAMES, ROW_SIZE};
 use pitch_track::Track;
+use rooms::room;
 use track_paper::{Prev, TrackAnswer};
 use track_settings::{SecondThreshold, Speech, TrackSettings, stored_settings};
 use zint::wrapping_sub_i32;
@@ -236,7 +237,7 @@ fn table_agrees(body: &[u8], rows: usize, table: &[i32]) -> bool
 fn samples_of(body: &[u8], at: usize) -> [i16; RECORDING_SAMPLES]
     ensures { recording_samples ≡ length result }
 {
-    let mut samples = sample_room();
+    let mut samples = room::<i16, RECORDING_SAMPLES>(0);
     let n = least(u32_at(body, 66), RECORDING_SAMPLES);
     load_i16s(body, at, &mut samples[..n]);
     samples

@@ -5,8 +5,9 @@
 
 ghost use Rattle.std.specs.Prelude.{◌≡◌, ◌≤◌, min};
 
-use cases_io::{byte_at, count, read_full, report, room, u32_at};
+use cases_io::{LIST_BYTES, byte_at, count, read_full, report, u32_at};
 use recording_head::Head;
+use rooms::room;
 use std::io;
 use std::io::{Read, Write};
 
@@ -23,7 +24,7 @@ fn least(a: usize, b: usize) -> usize
 fn record_agrees<R: Read>(input: &mut R, kind: usize, size: usize) -> io::Result<bool>
     requires { size ≤ 1048576 }
 {
-    let mut body = room();
+    let mut body = room::<u8, LIST_BYTES>(0);
     let got = read_full(input, &mut body[..size])?;
     if got != size {
         return Ok(false);

@@ -6,18 +6,19 @@ ghost use Rattle.cases_track.specs.Text.{Tells, TextAgrees};
 
 use crate::least;
 use cases_io::u32_at;
-use pitch_recording::{RECORDING_BYTES, sample_room, table_room};
+use pitch_recording::{RECORDING_BYTES, RECORDING_NUMBERS, RECORDING_SAMPLES};
 use recording_head::Head;
-use track_text::{LONGEST_TEXT, text_room, track_text};
+use rooms::room;
+use track_text::{LONGEST_TEXT, track_text};
 
 // Whether the text for this input, with so many bytes after it, is the one told.
 fn is_told(head: Head, input: &[u8], more: usize, told: &[u8]) -> bool
     requires { 0 < more → recording_bytes ≤ length input.now }
     ensures { (rest : List ℕ) → length rest ≡ more → Tells result (track_text head (input.now ++ rest) ≡ told.now) }
 {
-    let mut samples = sample_room();
-    let mut table = table_room();
-    let mut out = text_room();
+    let mut samples = room::<i16, RECORDING_SAMPLES>(0);
+    let mut table = room::<i32, RECORDING_NUMBERS>(0);
+    let mut out = room::<u8, LONGEST_TEXT>(0);
     let r = track_text(head, input, more, &mut samples, &mut table, &mut out);
     &out[..r] == told
 }

@@ -7,9 +7,10 @@ ghost use Rattle.std.specs.Int.Signed.{quot_z};
 ghost use Rattle.std.specs.Int.{w32};
 ghost use Rattle.std.proofs.Common.{SFits};
 
-use cases_io::{Tally, i16_at, i32_at, read_full, room, skip};
+use cases_io::{LIST_BYTES, Tally, i16_at, i32_at, read_full, skip};
+use rooms::room;
 use silk_macros::{
-    Quotient, silk_add_sat16, silk_add_sat32, silk_clz_frac, silk_clz32, silk_div32, silk_div32_16,
+    silk_add_sat16, silk_add_sat32, silk_clz_frac, silk_clz32, silk_div32, silk_div32_16,
     silk_div32_varq, silk_limit_32, silk_lin2log, silk_lshift, silk_lshift_sat32, silk_mul,
     silk_rshift, silk_rshift_round, silk_sat16, silk_smlabb, silk_smlawb, silk_smmul, silk_smulbb,
     silk_smulwb,
@@ -123,8 +124,8 @@ fn div32_varq_agrees(op: i32, a: i32, b: i32, c: i32, said: i32) -> bool {
     }
     let q = silk_div32_varq(a, b, c);
     match q {
-        Quotient::Value(v) => op == 15 && v == said,
-        Quotient::ZeroDivisor => op == 16,
+        Some(v) => op == 15 && v == said,
+        None => op == 16,
     }
 }
 
@@ -209,7 +210,7 @@ fn replay_all<W: Write>(output: &mut W, bytes: &[u8]) -> io::Result<()> {
 }
 
 fn main(rt: HostRuntime) -> io::Result<()> {
-    let mut bytes = room();
+    let mut bytes = room::<u8, LIST_BYTES>(0);
     let n = read_full(&mut rt.stdin(), &mut bytes)?;
     replay_all(&mut rt.stdout(), &bytes[..n])
 }

@@ -16,7 +16,7 @@ pub use Rattle.lists.specs.PushLaws.{take_overwritten}
 use Rattle.lists.specs.Signal.{sample}
 use Rattle.silk_resampler.specs.Down2.{down2}
 use Rattle.silk_resampler.specs.Down2Laws.{down2_length}
-use Rattle.silk_resampler.specs.declared.Filter.{Filter}
+use Rattle.silk_resampler.specs.declared.filter.Filter.{Filter}
 use Rattle.silk_resampler.specs.Down23.{down2_3}
 use Rattle.silk_resampler.specs.Down23Laws.{down2_3-length}
 use Rattle.frame_signals.specs.Signals.{down_to_8khz, two_tap, down_to_4khz}

@@ -6,7 +6,7 @@ use Rattle.zint.specs.Clamp.{sat}
 use Rattle.lists.specs.Fill.{tabulate}
 use Rattle.lists.specs.Signal.{sample}
 use Rattle.silk_resampler.specs.Down2.{down2}
-use Rattle.silk_resampler.specs.declared.Filter.{Filter}
+use Rattle.silk_resampler.specs.declared.filter.Filter.{Filter}
 use Rattle.silk_resampler.specs.Down23.{down2_3}
 
 -- e, of the 12 kHz filter F, the rate fs and w: half the rate of 16 kHz, two thirds of 12 kHz, and w itself at 8 kHz

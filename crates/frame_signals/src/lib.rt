@@ -6,7 +6,7 @@ ghost use Rattle.std.specs.Prelude.{◌≡◌, ◌*◌, ◌/◌, ◌^◌, ◌≤
 ghost use Rattle.lists.specs.Fill.{filled, overwritten};
 ghost use Rattle.lists.specs.Signal.{sample};
 ghost use Rattle.silk_resampler.specs.Down2.{down2};
-ghost use Rattle.silk_resampler.specs.Down23.{UsableFilter, down2_3};
+ghost use Rattle.silk_resampler.specs.Down23.{down2_3};
 ghost use Rattle.frame_signals.specs.Scale.{down_shift, shifted_at, moved_count, holder};
 ghost use Rattle.frame_signals.specs.Signals.{down_to_8khz, two_tap, down_to_4khz};
 
@@ -46,17 +46,6 @@ pub fn working_frame<'a>(frame: &'a [i16], scratch: &'a [i16], n: usize, shift: 
     }
 }
 
-// The whole frame, in the first places of out.
-fn copy_into(frame: &[i16], out: &mut [i16])
-    requires { length frame.now ≤ length out.old }
-    ensures { out.new ≡ overwritten frame.now out.old }
-{
-    for i in 0..frame.len() {
-        let x = frame[i];
-        out[i] = x;
-    }
-}
-
 // Half the rate, from states of 0.
 fn halve_into(frame: &[i16], out: &mut [i16])
     requires { length frame.now / 2 ≤ length out.old }
@@ -68,7 +57,7 @@ fn halve_into(frame: &[i16], out: &mut [i16])
 
 // Two thirds of the rate by a filter, from states of 0.
 fn two_thirds_into(frame: &[i16], out: &mut [i16], filter: Filter)
-    requires { (2 * (length frame.now / 3) ≤ length out.old) × ((length frame.now ≤ 480) × UsableFilter filter) }
+    requires { (2 * (length frame.now / 3) ≤ length out.old) × (length frame.now ≤ 480) }
     ensures { out.new ≡ overwritten (down2_3 filter frame.now) out.old }
 {
     let mut filt_state = [0i32; 6];
@@ -77,7 +66,7 @@ fn two_thirds_into(frame: &[i16], out: &mut [i16], filter: Filter)
 
 // The working frame at 8 kHz, in the first places of out, at 12 kHz by a filter; at 8 kHz it is a copy.
 pub fn frame_8khz(frame: &[i16], out: &mut [i16], fs_khz: usize, filter: Filter)
-    requires { (length (down_to_8khz filter fs_khz frame.now) ≤ length out.old) × ((fs_khz ≡ 12 → length frame.now ≤ 480) × UsableFilter filter) }
+    requires { (length (down_to_8khz filter fs_khz frame.now) ≤ length out.old) × (fs_khz ≡ 12 → length frame.now ≤ 480) }
     ensures { out.new ≡ overwritten (down_to_8khz filter fs_khz frame.now) out.old }
 {
     if fs_khz == 16 {
@@ -85,7 +74,7 @@ pub fn frame_8khz(frame: &[i16], out: &mut [i16], fs_khz: usize, filter: Filter)
     } else if fs_khz == 12 {
         two_thirds_into(frame, out, filter);
     } else {
-        copy_into(frame, out);
+        out[..frame.len()].copy_from_slice(frame);
     }
 }
 
@@ -94,11 +83,8 @@ fn two_tap_sum(x: &mut [i16], n: usize)
     requires { n ≤ length x.old }
     ensures { x.new ≡ filled (two_tap (sample x.old)) n x.old }
 {
-    let mut i = n;
-    while i > 1 {
-        i -= 1;
-        let sum = silk_add_sat16(x[i], x[i - 1]);
-        x[i] = sum;
+    for i in (1..n).rev() {
+        x[i] = silk_add_sat16(x[i], x[i - 1]);
     }
 }
 

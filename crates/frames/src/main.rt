@@ -2,7 +2,7 @@
 // it prints). A record that is cut or refused is the last. Where a read fails it prints nothing more; that, or a failed write, it says in a line on standard error.
 #![tactic(auto)]
 
-ghost use Rattle.std.specs.Prelude.{true, false, ◌≡◌, ◌≤◌, take, length, IfSome};
+ghost use Rattle.std.specs.Prelude.{◌≡◌, ◌≤◌, take, length, IfOk, IfSome, OnOk};
 ghost use Rattle.std.specs.Io.KnownBytes.{Appends};
 ghost use Rattle.recording_io.specs.Counts.{IsPrefixLen};
 ghost use Rattle.recording_io.specs.ReadAnswer.{most_reads};
@@ -14,34 +14,27 @@ ghost use Rattle.pitch_text.specs.Text.{row_text_bytes};
 use frames_text::{LONGEST_RECORD, RECORD_HEAD, frame_text, record_length};
 use pitch_settings::LONGEST_FRAME;
 use pitch_text::ROW_TEXT_BYTES;
-use recording_io::{EVERY, Input, read_input, say_unread, write_output};
+use recording_io::{EVERY, Failure, read_input, say_unread, write_output};
+use rooms::room;
 use std::io::{Read, Write};
 
 // Reads a record: the bytes before its samples and as many more as they ask for, or what there is of them.
-fn read_record<R: Read>(input: &mut R, bytes: &mut [u8]) -> Input
+fn read_record<R: Read>(input: &mut R, bytes: &mut [u8]) -> Result<usize, Failure>
     requires { longest_record ≤ length bytes.old }
-    ensures prefix_len { IsPrefixLen result.count bytes.new }
-    ensures record { result.failed ≡ false → IfSome (R.remaining input.old) (λ xs. RecordRead xs (take result.count bytes.new) (R.remaining input.new)) }
+    ensures prefix_len { IfOk result (λ count. IsPrefixLen count bytes.new) }
+    ensures record { IfOk result (λ count. IfSome (R.remaining input.old) (λ xs. RecordRead xs (take count bytes.new) (R.remaining input.new))) }
 {
-    let start = read_input(input, &mut bytes[..RECORD_HEAD]);
-    if start.failed {
-        return start;
-    }
-    let head = start.count;
+    let head = read_input(input, &mut bytes[..RECORD_HEAD])?;
     let end = record_length(&bytes[..head]);
-    let rest = read_input(input, &mut bytes[head..end]);
-    Input {
-        count: head + rest.count,
-        failed: rest.failed,
-    }
+    let rest = read_input(input, &mut bytes[head..end])?;
+    Ok(head + rest)
 }
 
-// What became of a record: its line was printed and more may follow; it was the last, at the end of the input or refused; or a read or a write failed.
+// What became of a record: its line was printed and more may follow, or it was the last, at the end of the input or refused.
 #[derive(Clone, Copy)]
 enum Printed {
     More,
     Last,
-    Failed,
 }
 
 // Reads a record and prints its line or its refusal. Nothing follows a read or a write that failed.
@@ -52,50 +45,48 @@ fn print_record<R: Read, W: Write, E: Write>(
     bytes: &mut [u8],
     samples: &mut [i16],
     out: &mut [u8],
-) -> Printed
+) -> Result<Printed, Failure>
     requires { (longest_record ≤ length bytes.old) × (longest_frame ≤ length samples.old) × (row_text_bytes ≤ length out.old) }
-    ensures more { result ≡ Printed.More → IfSome (R.remaining input.old) (λ xs. LinePrinted xs (W.contents output.old) (W.contents output.new) (R.remaining input.new)) }
-    ensures last { result ≡ Printed.Last → IfSome (R.remaining input.old) (λ xs. AllPrinted xs (W.contents output.old) (W.contents output.new)) }
+    ensures more { result ≡ Ok Printed.More → IfSome (R.remaining input.old) (λ xs. LinePrinted xs (W.contents output.old) (W.contents output.new) (R.remaining input.new)) }
+    ensures last { result ≡ Ok Printed.Last → IfSome (R.remaining input.old) (λ xs. AllPrinted xs (W.contents output.old) (W.contents output.new)) }
 {
-    let got = read_record(input, bytes);
-    if got.failed {
+    let Ok(n) = read_record(input, bytes) else {
         say_unread(errors, b"frames");
-        return Printed::Failed;
-    }
-    let n = got.count;
+        return Err(Failure::Reading);
+    };
     if n == 0 {
-        return Printed::Last;
+        return Ok(Printed::Last);
     }
     let line = frame_text(&bytes[..n], samples, out);
-    let written = write_output(output, errors, b"frames", &out[..line.len]);
-    if !written {
-        return Printed::Failed;
-    }
+    write_output(output, errors, b"frames", &out[..line.len])?;
     if line.number == 0 {
-        Printed::More
+        Ok(Printed::More)
     } else {
-        Printed::Last
+        Ok(Printed::Last)
     }
 }
 
-// Every record, up to 2 to the 40. Whether all was read and written.
-fn print_frames<R: Read, W: Write, E: Write>(input: &mut R, output: &mut W, errors: &mut E) -> bool
-    ensures { result ≡ true → IfSome (R.remaining input.old) (λ xs. Appends (W.contents output.old) (W.contents output.new) (frames_output most_reads xs)) }
+// Every record, up to 2 to the 40.
+fn print_frames<R: Read, W: Write, E: Write>(
+    input: &mut R,
+    output: &mut W,
+    errors: &mut E,
+) -> Result<(), Failure>
+    ensures { OnOk result (IfSome (R.remaining input.old) (λ xs. Appends (W.contents output.old) (W.contents output.new) (frames_output most_reads xs))) }
 {
-    let mut bytes = [0u8; LONGEST_RECORD];
-    let mut samples = [0i16; LONGEST_FRAME];
-    let mut out = [0u8; ROW_TEXT_BYTES];
-    let mut records: usize = 0;
-    while records < EVERY {
-        match print_record(input, output, errors, &mut bytes, &mut samples, &mut out) {
-            Printed::More => records += 1,
-            Printed::Last => return true,
-            Printed::Failed => return false,
+    let mut bytes = room::<u8, LONGEST_RECORD>(0);
+    let mut samples = room::<i16, LONGEST_FRAME>(0);
+    let mut out = room::<u8, ROW_TEXT_BYTES>(0);
+    for _ in 0..EVERY {
+        let printed = print_record(input, output, errors, &mut bytes, &mut samples, &mut out)?;
+        match printed {
+            Printed::More => {}
+            Printed::Last => return Ok(()),
         }
     }
-    true
+    Ok(())
 }
 
 fn main(rt: HostRuntime) {
-    print_frames(&mut rt.stdin(), &mut rt.stdout(), &mut rt.stderr());
+    let _ = print_frames(&mut rt.stdin(), &mut rt.stdout(), &mut rt.stderr());
 }

@@ -87,7 +87,7 @@ pub fn frame_text(bytes: &[u8], samples: &mut [i16], out: &mut [u8]) -> Line
     }
     let s = settings_in(bytes);
     let n = frame_length(s);
-    load_samples(bytes, 19, &mut samples[..n]);
+    load_samples(bytes, RECORD_HEAD, &mut samples[..n]);
     let lag = i32_at(bytes, LAG_AT);
     let correlation = i32_at(bytes, CORRELATION_AT);
     let answer = frame_row(s, &samples[..n], lag, correlation);

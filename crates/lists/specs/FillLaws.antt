@@ -1,7 +1,7 @@
 -- Laws of lists whose first places are given by a rule, which is what a loop that stores one element a turn leaves.
 use Rattle.std.specs.Prelude.{◌≡◌, take, set}
 use Rattle.std.proofs.Math.Path.{refl, sym, ap, ap₂}
-use Rattle.std.proofs.Common.{◌∙◌, add-one, length-drop, drop_of_length-le, take_all, ext_get_or}
+use Rattle.std.proofs.Common.{◌∙◌, add-zero, append_assoc, drop_at, drop-drop, add-one, length-drop, length-take-le, get_or-take, drop_of_length-le, take_all, ext_get_or}
 use mathlib.Core.List.{List, [], ◌∷◌, ◌++◌, append-nil}
 use Prim.Native.Nat.{ℕ, zero, suc, ◌+◌, ◌-◌, ◌<◌, ◌≤◌}
 use native.Mathlib.Omega.{arith}
@@ -71,6 +71,29 @@ module _ {A : Type 0} where
   pub tabulate_is : (f : ℕ → A) (n : ℕ) (l : List A) (d : A) → n ≡ length l → ((k : ℕ) → k < n → f k ≡ get_or l k d) → tabulate f n ≡ l
   tabulate_is f n l d e h =
       ext_get_or d (tabulate f n) l (length_tabulate f n ∙ e) (λ k m. let b : k < n = omega (arith, length_tabulate f n) in get_d_tabulate f n k d b ∙ h k b)
+
+  -- the first n elements of another list, copied
+  pub filled_copied : (xs l : List A) (n : ℕ) (d : A) → n ≤ length xs → take n xs ++ drop n l ≡ filled (λ (k : ℕ). get_or xs k d) n l
+  unfolding filled
+  filled_copied xs l n d h =
+      ap (λ (t : List A). t ++ drop n l) (sym (tabulate_is (λ (k : ℕ). get_or xs k d) n (take n xs) d (sym (length-take-le n xs h)) (λ k b. sym (get_or-take n xs k d b))))
+
+  -- a table in two parts, and m places more, written at once
+  tabulate_join : (f : ℕ → A) (n m : ℕ) → tabulate f n ++ tabulate (λ (j : ℕ). f (n + j)) m ≡ tabulate f (n + m)
+  unfolding tabulate
+  tabulate_join f n zero = append-nil (tabulate f n) ∙ ap (tabulate f) (sym (add-zero n))
+  tabulate_join f n (suc m) =
+      let e : suc (n + m) ≡ n + suc m = omega arith in
+      sym (append_assoc (tabulate f n) (tabulate (λ (j : ℕ). f (n + j)) m) (f (n + m) ∷ [])) ∙ ap (λ (t : List A). t ++ (f (n + m) ∷ [])) (tabulate_join f n m) ∙ ap (tabulate f) e
+
+  pub filled_more : (f : ℕ → A) (n m k : ℕ) (l : List A) {out part : List A} → out ≡ filled f n l → part ≡ tabulate (λ (j : ℕ). f (n + j)) m → k ≡ m
+      → take n out ++ (part ++ drop k (drop n out)) ≡ filled f (n + m) l
+  unfolding filled
+  filled_more f n m k l {out} {part} eo ep ek =
+      ap₂ (λ (t u : List A). t ++ (part ++ drop k u)) (ap (take n) eo ∙ take_at (tabulate f n) (drop n l) n (length_tabulate f n)) (ap (drop n) eo ∙ drop_at (tabulate f n) (drop n l) n (length_tabulate f n))
+      ∙ ap₂ (λ (t : List A) (i : ℕ). tabulate f n ++ (t ++ drop i (drop n l))) ep ek
+      ∙ sym (append_assoc (tabulate f n) (tabulate (λ (j : ℕ). f (n + j)) m) (drop m (drop n l)))
+      ∙ ap₂ (λ (t u : List A). t ++ u) (tabulate_join f n m) (drop-drop m n l)
 
   -- one turn of a loop that stores v at n
   pub filled_turn : (f : ℕ → A) (n : ℕ) (l : List A) {out : List A} {v : A} → out ≡ filled f n l → v ≡ f n → n < length l → set out n v ≡ filled f (n + 1) l

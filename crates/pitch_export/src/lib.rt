@@ -7,8 +7,8 @@ ghost use Rattle.pitch_export.specs.Export.{export_settings, lent_numbers, expor
 ghost use Rattle.pitch_export.specs.ThresholdExport.{threshold_exported, export_threshold_call};
 
 use pitch_settings::Settings;
-use silk_pitch_analysis::{FrameAnswer, Verdict, silk_pitch_analysis_core};
-use speech_threshold::{ThresholdAnswer, speech_threshold};
+use silk_pitch_analysis::{Verdict, silk_pitch_analysis_core};
+use speech_threshold::Speech;
 
 // Writes the four numbers of a verdict.
 fn put_verdict(
@@ -68,13 +68,12 @@ pub fn pitch_frame(
         thres1,
         thres2,
     };
-    let answer = silk_pitch_analysis_core(frame, pitch_out, s, prev_lag, prev_corr);
-    match answer {
-        FrameAnswer::Refused(no) => no,
-        FrameAnswer::Analysed(v) => {
+    match silk_pitch_analysis_core(frame, pitch_out, s, prev_lag, prev_corr) {
+        Ok(v) => {
             put_verdict(v, verdict, index, contour, correlation);
             0
         }
+        Err(refused) => refused.number(),
     }
 }
 
@@ -88,12 +87,16 @@ pub fn pitch_threshold(
 ) -> usize
     ensures { threshold_exported result threshold.new ≡ export_threshold_call order activity signal_type tilt threshold.old }
 {
-    let answer = speech_threshold(order, activity, signal_type, tilt);
-    match answer {
-        ThresholdAnswer::Refused(no) => no,
-        ThresholdAnswer::Threshold(value) => {
+    let speech = Speech {
+        order,
+        activity,
+        tilt,
+    };
+    match speech.threshold(signal_type) {
+        Ok(value) => {
             *threshold = value;
             0
         }
+        Err(refusal) => refusal.number(),
     }
 }

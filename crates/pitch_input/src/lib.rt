@@ -6,7 +6,6 @@ ghost use Rattle.pitch_input.specs.Input.{head_size, input_settings, sample_at, 
 
 use pitch_settings::Settings;
 use sheet_bytes::{i32_at, u16_at};
-use zint::as_i16;
 
 // The bytes of the settings, with which an input begins.
 pub const HEAD_SIZE: usize = 11;
@@ -30,7 +29,7 @@ pub fn sample_at(bytes: &[u8], at: usize) -> i16
     requires { at + 2 ≤ length bytes.now }
     ensures { result ≡ sample_at bytes.now at }
 {
-    as_i16(u16_at(bytes, at) as i32)
+    u16_at(bytes, at).cast_signed()
 }
 
 // Fills out with samples, from the byte `at` on.
@@ -38,9 +37,8 @@ pub fn load_samples(bytes: &[u8], at: usize, out: &mut [i16])
     requires { at + 2 * length out.old ≤ length bytes.now }
     ensures { out.new ≡ samples_from bytes.now at (length out.old) }
 {
-    let mut i = 0;
-    while i < out.len() {
+    // by index: of what an adapter over `iter_mut` writes a proof knows nothing
+    for i in 0..out.len() {
         out[i] = sample_at(bytes, at + 2 * i);
-        i += 1;
     }
 }

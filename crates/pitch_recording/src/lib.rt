@@ -4,7 +4,7 @@
 ghost use Rattle.std.specs.Prelude.{◌≡◌, List, ◌++◌, ℕ, ◌<◌, ◌≤◌, ltb, length};
 ghost use Rattle.pitch_settings.specs.Settings.{settings_no};
 ghost use Rattle.track_paper.specs.Paper.{F};
-ghost use Rattle.pitch_recording.specs.Recording.{program_frames, recording_samples, recording_bytes, recording_numbers, first_recording_refusal, recording_no, take_outcome, take_call};
+ghost use Rattle.pitch_recording.specs.Recording.{program_frames, recording_samples, recording_bytes, first_recording_refusal, recording_no, take_outcome, take_call};
 
 use pitch_input::load_samples;
 use pitch_settings::{LONGEST_FRAME, Settings, frame_length, hop_length};
@@ -101,25 +101,4 @@ pub fn take_recording(head: Head, input: &[u8], more: usize, samples: &mut [i16]
     let n = (input.len() - size) / 2;
     load_samples(input, size, &mut samples[..n]);
     Recording::Taken(k, n)
-}
-
-// Room for an input and a byte of what is too long. The `ensures` of these gives only the length, so that nothing unfolds the zeros.
-pub fn input_room() -> [u8; RECORDING_BYTES]
-    ensures { recording_bytes ≡ length result }
-{
-    [0; RECORDING_BYTES]
-}
-
-// Room for its samples.
-pub fn sample_room() -> [i16; RECORDING_SAMPLES]
-    ensures { recording_samples ≡ length result }
-{
-    [0; RECORDING_SAMPLES]
-}
-
-// Room for its rows.
-pub fn table_room() -> [i32; RECORDING_NUMBERS]
-    ensures { recording_numbers ≡ length result }
-{
-    [0; RECORDING_NUMBERS]
 }

@@ -1,5 +1,5 @@
 -- The round trips and the sizes hold.
-use Rattle.std.specs.Prelude.{◌≡◌, Bool, true, false, eqb, leb, pos}
+use Rattle.std.specs.Prelude.{Ok, Err, ◌≡◌, Bool, true, false, eqb, leb, pos}
 use Rattle.std.proofs.Math.Path.{refl, sym, ap, ap₂}
 use Rattle.std.proofs.Common.{◌∙◌, eqb-true, leb-true, leb-false, length-append, take_at, take-add, drop-cons, length-take-le, SFits}
 use mathlib.Core.List.{List, [], ◌∷◌, ◌++◌, append_assoc}
@@ -24,8 +24,6 @@ use Rattle.sheet_sections.specs.Sheet.{has_entry, section_entries, sheet, sheet_
 use Rattle.sheet_sections.specs.SheetLaws.{length_rows, length_sheet, section_entries_le}
 use Rattle.sheet_page.specs.Page.{sheet_settings, frames_in, well_formed, page_no, row_in, row_found, rows_in, numbers_of}
 use Rattle.sheet_page.specs.PageLaws.{numbers_append, numbers_length}
-use Rattle.pitch_sheet.specs.declared.Wrote.TheVariants.{Written}
-use Rattle.pitch_sheet.specs.declared.Got.TheVariants.{Read, Refused as NotRead}
 use Rattle.pitch_sheet.specs.Calls.{whole_rows, rows_hold, write_no, wrote, write_call, got, read_call, WriteOutcome, ReadOutcome}
 use Rattle.pitch_sheet.specs.CallsLaws.{writable, hold_all, no_refusal, write_refused, write_done, page_sheet, sheet_page, read_malformed, read_short, read_done, rows_in-length}
 use Rattle.pitch_sheet.specs.Holds.{no_row, Holds}
@@ -100,22 +98,22 @@ module _ (rs : List Row) (rest : List ℤ) where
 
 -- ---- a sheet reads back
 
-sheet_reads : (s : Settings) (rs : List Row) (t : List ℤ) → Holds s rs → length rs ≤ whole_rows t → read_call (sheet s rs) t ≡ got (Read s (length rs)) (numbers_of rs ++ drop (length rs * row_size) t)
+sheet_reads : (s : Settings) (rs : List Row) (t : List ℤ) → Holds s rs → length rs ≤ whole_rows t → read_call (sheet s rs) t ≡ got (Ok (s, length rs)) (numbers_of rs ++ drop (length rs * row_size) t)
 sheet_reads s rs t h l =
     let p = sheet s rs in
     let a = settings_read s rs h in
     let n = sheet_frames s rs h in
     let r = sheet_rows s rs h in
     read_done p t (sheet_page p (sheet_well_formed s rs h)) (omega (arith, n))
-    ∙ (λ u. got (Read (a u) (n u)) (numbers_of (r u) ++ drop (n u * row_size) t))
+    ∙ (λ u. got (Ok (a u, n u)) (numbers_of (r u) ++ drop (n u * row_size) t))
 
 -- a table that has fewer rows
-sheet_short : (s : Settings) (rs : List Row) (t : List ℤ) → Holds s rs → whole_rows t < length rs → read_call (sheet s rs) t ≡ got (NotRead 7) t
+sheet_short : (s : Settings) (rs : List Row) (t : List ℤ) → Holds s rs → whole_rows t < length rs → read_call (sheet s rs) t ≡ got (Err 7) t
 sheet_short s rs t h l = let p = sheet s rs in let n = sheet_frames s rs h in read_short p t (sheet_page p (sheet_well_formed s rs h)) (omega (arith, n))
 
 -- ---- what was written
 
-module _ (s : Settings) (n : ℕ) (t : List ℤ) (page : List ℕ) (k : ℕ) (after : List ℕ) (done : write_call s n t page ≡ wrote (Written k) after) where
+module _ (s : Settings) (n : ℕ) (t : List ℤ) (page : List ℕ) (k : ℕ) (after : List ℕ) (done : write_call s n t page ≡ wrote (Ok k) after) where
   not_refused : write_no s n t (length page) ≡ 0
   not_refused = by (eqb (write_no s n t (length page)) 0) refl
     where
@@ -150,18 +148,18 @@ module _ (s : Settings) (n : ℕ) (t : List ℤ) (page : List ℕ) (k : ℕ) (af
         correlations = λ i l. let j : i < n = omega (arith, length_rows t n) in rw (at i j) (w (i * row_size + 3));
       }
 
-  written_reads : SFits w32 s.thres1 → SFits w32 s.thres2 → Words t → (into : List ℤ) → n ≤ whole_rows into → read_call (take k after) into ≡ got (Read s n) (take (n * row_size) t ++ drop (n * row_size) into)
+  written_reads : SFits w32 s.thres1 → SFits w32 s.thres2 → Words t → (into : List ℤ) → n ≤ whole_rows into → read_call (take k after) into ≡ got (Ok (s, n)) (take (n * row_size) t ++ drop (n * row_size) into)
   written_reads a b w into l =
       let rs = rows_of t n in
       let m = length_rows t n in
       let e = rows_numbers t n (writable s n t (length page) not_refused).whole in
       ap (λ (p : List ℕ). read_call p into) front_written
       ∙ sheet_reads s rs into (rows_written a b w) (omega (arith, m))
-      ∙ (λ u. got (Read s (m u)) (e u ++ drop (m u * row_size) into))
+      ∙ (λ u. got (Ok (s, m u)) (e u ++ drop (m u * row_size) into))
 
 -- ---- what was read
 
-module _ (p : List ℕ) (t : List ℤ) (s : Settings) (n : ℕ) (after : List ℤ) (bytes : Bytes p) (done : read_call p t ≡ got (Read s n) after) where
+module _ (p : List ℕ) (t : List ℤ) (s : Settings) (n : ℕ) (after : List ℤ) (bytes : Bytes p) (done : read_call p t ≡ got (Ok (s, n)) after) where
   record Found : Type 0 where
     fine : page_no p ≡ 0
     room : frames_in p ≤ whole_rows t
@@ -180,14 +178,17 @@ module _ (p : List ℕ) (t : List ℤ) (s : Settings) (n : ℕ) (after : List �
           let z : ◌≡◌ {A = ℕ} 0 1 = cc in
           absurd (omega arith)
 
-  outcome : got (Read (sheet_settings p) (frames_in p)) (numbers_of (rows_in p) ++ drop (frames_in p * row_size) t) ≡ got (Read s n) after
+  outcome : got (Ok (sheet_settings p, frames_in p)) (numbers_of (rows_in p) ++ drop (frames_in p * row_size) t) ≡ got (Ok (s, n)) after
   outcome = sym (read_done p t found.fine found.room) ∙ done
 
+  answer_is : ◌≡◌ {A = Settings × ℕ} (sheet_settings p, frames_in p) (s, n)
+  answer_is = let q = ap (λ (o : ReadOutcome). o.answer) outcome in cc
+
   settings_are : sheet_settings p ≡ s
-  settings_are = let q = ap (λ (o : ReadOutcome). o.answer) outcome in cc
+  settings_are = ap (λ (a : Settings × ℕ). a.0) answer_is
 
   frames_are : frames_in p ≡ n
-  frames_are = let q = ap (λ (o : ReadOutcome). o.answer) outcome in cc
+  frames_are = ap (λ (a : Settings × ℕ). a.1) answer_is
 
   table_is : numbers_of (rows_in p) ++ drop (frames_in p * row_size) t ≡ after
   table_is = ap (λ (o : ReadOutcome). o.table) outcome
@@ -212,7 +213,7 @@ module _ (p : List ℕ) (t : List ℤ) (s : Settings) (n : ℕ) (after : List �
   bytes_back : sheet s (rows_of after n) ≡ p
   bytes_back = (λ u. sheet (sym settings_are u) (rows_read u)) ∙ written.page_sheet p bytes (page_sheet p found.fine)
 
-  read_writes : (page : List ℕ) → length p ≤ length page → write_call s n after page ≡ wrote (Written (length p)) (p ++ drop (length p) page)
+  read_writes : (page : List ℕ) → length p ≤ length page → write_call s n after page ≡ wrote (Ok (length p)) (p ++ drop (length p) page)
   read_writes page l =
       let h = written.page_holds p bytes (page_sheet p found.fine) in
       let a : held_no s ≡ 0 = ap held_no (sym settings_are) ∙ h.settings in
@@ -221,11 +222,11 @@ module _ (p : List ℕ) (t : List ℤ) (s : Settings) (n : ℕ) (after : List �
       hold_all s after n (λ i k. (λ u. row_holds (sym settings_are u) (row_read i k u)) ∙ h.rows i (omega (arith, rows_length, frames_are))) in
       let e = bytes_back in
       let no = no_refusal s n after (length page) a b {m = n} (omega (arith, after_long)) r after_long (omega (arith, ap length e)) in
-      write_done s n after page no ∙ ap (λ (x : List ℕ). wrote (Written (length x)) (x ++ drop (length x) page)) e
+      write_done s n after page no ∙ ap (λ (x : List ℕ). wrote (Ok (length x)) (x ++ drop (length x) page)) e
 
 -- ---- which pages are read
 
-nine_no_sheet : (p : List ℕ) (t : List ℤ) → (read_call p t).answer ≡ NotRead 9 → IsSheet p → ⊥
+nine_no_sheet : (p : List ℕ) (t : List ℤ) → (read_call p t).answer ≡ Err 9 → IsSheet p → ⊥
 nine_no_sheet p t e w =
     let fine : page_no p ≡ 0 = ap page_no w.same ∙ sheet_page (sheet w.settings w.rows) (sheet_well_formed w.settings w.rows w.holds) in
     by fine (leb (frames_in p) (whole_rows t)) refl
@@ -240,16 +241,16 @@ nine_no_sheet p t e w =
         let z : ◌≡◌ {A = ℕ} 7 9 = cc in
         omega arith
 
-no_sheet_nine : (p : List ℕ) (t : List ℤ) → Bytes p → (IsSheet p → ⊥) → (read_call p t).answer ≡ NotRead 9
+no_sheet_nine : (p : List ℕ) (t : List ℤ) → Bytes p → (IsSheet p → ⊥) → (read_call p t).answer ≡ Err 9
 unfolding page_no
 no_sheet_nine p t bytes g = by (well_formed p) refl
   where
-    by : (b : Bool) → well_formed p ≡ b → (read_call p t).answer ≡ NotRead 9
+    by : (b : Bool) → well_formed p ≡ b → (read_call p t).answer ≡ Err 9
     by true e = absurd (g (record { settings = sheet_settings p; rows = rows_in p; holds = written.page_holds p bytes e; same = sym (written.page_sheet p bytes e) }))
     by false e =
         let n : page_no p ≡ 9 = rw e in
         let m : page_no p ≡ 0 → ⊥ = λ z. omega arith in
-        ap (λ (o : ReadOutcome). o.answer) (read_malformed p t m) ∙ ap NotRead n
+        ap (λ (o : ReadOutcome). o.answer) (read_malformed p t m) ∙ ap Err n
 
 one_meaning : (s s' : Settings) (rs rs' : List Row) → Holds s rs → Holds s' rs' → sheet s rs ≡ sheet s' rs' → (s ≡ s') × (rs ≡ rs')
 one_meaning s s' rs rs' h h' e =

@@ -1,17 +1,16 @@
 -- What writing and reading a sheet say and leave, in every case (docs/SCOPE.md, Refusals). The sheet's bytes are `Sheet` of sheet_sections, the rows that it can hold `Rows`
 -- of sheet_rows, and a page's contents `Page` of sheet_page. Definitions only.
-use Rattle.std.specs.Prelude.{Bool, cond, List, [], ◌∷◌, ◌++◌, ℕ, ◌*◌, ◌/◌, min, eqb, leb, ℤ, pos, length, drop}
+use Rattle.std.specs.Prelude.{Bool, cond, List, [], ◌∷◌, ◌++◌, ℕ, ◌*◌, ◌/◌, min, eqb, leb, ℤ, pos, length, drop, Result, Ok, Err}
 use Rattle.best.specs.Best.{every}
+use Rattle.refusals.specs.declared.Refusal.{Refusal}
+use Rattle.refusals.specs.Refusals.{refusal_number}
 use Rattle.pitch_settings.specs.declared.Settings.{Settings}
+use Rattle.pitch_settings.specs.declared.held.Held.{Held}
 use Rattle.pitch_settings.specs.Settings.{held_no}
 use Rattle.pitch_table.specs.Row.{row_size, most_frames, row_at}
 use Rattle.sheet_rows.specs.Rows.{row_holds}
 use Rattle.sheet_sections.specs.Sheet.{setting_numbers, rows_of, sheet}
 use Rattle.sheet_page.specs.Page.{sheet_settings, frames_in, page_no, rows_in, numbers_of}
-use Rattle.pitch_sheet.specs.declared.Wrote.{Wrote}
-use Rattle.pitch_sheet.specs.declared.Wrote.TheVariants.{Written, Refused as NotWritten}
-use Rattle.pitch_sheet.specs.declared.Got.{Got}
-use Rattle.pitch_sheet.specs.declared.Got.TheVariants.{Read, Refused as NotRead}
 
 -- a table's whole rows
 abbrev pub whole_rows : List ℤ → ℕ
@@ -38,23 +37,23 @@ write_no s n t room =
     (held_no s)
 
 pub record WriteOutcome : Type 0 where
-  pub answer : Wrote
+  pub answer : Result ℕ ℕ
   pub page : List ℕ
 
-abbrev pub wrote : Wrote → List ℕ → WriteOutcome
+abbrev pub wrote : Result ℕ ℕ → List ℕ → WriteOutcome
 wrote r page = record { answer = r; page = page }
 
 -- the sheet at the front of the page, the rest kept; a refusal leaves the page
 unfoldable pub write_call : Settings → ℕ → List ℤ → List ℕ → WriteOutcome
 write_call s n t page =
     cond (eqb (write_no s n t (length page)) 0)
-    (wrote (Written (length (sheet s (rows_of t n)))) (sheet s (rows_of t n) ++ drop (length (sheet s (rows_of t n))) page))
-    (wrote (NotWritten (write_no s n t (length page))) page)
+    (wrote (Ok (length (sheet s (rows_of t n)))) (sheet s (rows_of t n) ++ drop (length (sheet s (rows_of t n))) page))
+    (wrote (Err (write_no s n t (length page))) page)
 
 -- the answer in numbers: 0 and the bytes written, or the number of the refusal
-unfoldable pub write_numbers : Wrote → List ℤ
-write_numbers (Written n) = pos 0 ∷ pos n ∷ []
-write_numbers (NotWritten k) = pos k ∷ []
+unfoldable pub write_numbers : Result ℕ ℕ → List ℤ
+write_numbers (Ok n) = pos 0 ∷ pos n ∷ []
+write_numbers (Err k) = pos k ∷ []
 
 -- ---- reading
 
@@ -63,20 +62,25 @@ unfoldable pub read_no : List ℕ → List ℤ → ℕ
 read_no page t = cond (eqb (page_no page) 0) (cond (leb (frames_in page) (whole_rows t)) 0 7) (page_no page)
 
 pub record ReadOutcome : Type 0 where
-  pub answer : Got
+  pub answer : Result (Settings × ℕ) ℕ
   pub table : List ℤ
 
-abbrev pub got : Got → List ℤ → ReadOutcome
+-- a reading's answer with its refusal's number, and the settings as numbers alone
+abbrev pub told_read : Result (Held × ℕ) Refusal → Result (Settings × ℕ) ℕ
+told_read (Ok a) = Ok (a.0.settings, a.1)
+told_read (Err r) = Err (refusal_number r)
+
+abbrev pub got : Result (Settings × ℕ) ℕ → List ℤ → ReadOutcome
 got r t = record { answer = r; table = t }
 
 -- the settings and the frame count, and the rows written whole at the front of the table, the rest kept; a refusal leaves the table
 unfoldable pub read_call : List ℕ → List ℤ → ReadOutcome
 read_call page t =
     cond (eqb (read_no page t) 0)
-    (got (Read (sheet_settings page) (frames_in page)) (numbers_of (rows_in page) ++ drop (frames_in page * row_size) t))
-    (got (NotRead (read_no page t)) t)
+    (got (Ok (sheet_settings page, frames_in page)) (numbers_of (rows_in page) ++ drop (frames_in page * row_size) t))
+    (got (Err (read_no page t)) t)
 
 -- the answer in numbers: 0, the settings and the frame count, or the number of the refusal
-unfoldable pub read_numbers : Got → List ℤ
-read_numbers (Read s n) = pos 0 ∷ (setting_numbers s ++ (pos n ∷ []))
-read_numbers (NotRead k) = pos k ∷ []
+unfoldable pub read_numbers : Result (Settings × ℕ) ℕ → List ℤ
+read_numbers (Ok a) = pos 0 ∷ (setting_numbers a.0 ++ (pos a.1 ∷ []))
+read_numbers (Err k) = pos k ∷ []

@@ -1,7 +1,7 @@
 -- What each call says, by its tests, and what is known where it does not refuse.
 use Rattle.std.proofs.Math.Path.{◌≡◌, refl, ap}
 use Rattle.std.proofs.Common.{sym, ◌∙◌}
-use Rattle.std.specs.Prelude.{Bool, ℤ, length}
+use Rattle.std.specs.Prelude.{Bool, ℤ, length, Result, Ok, Err}
 use Rattle.std.proofs.Math.Bool.{true, false, cond}
 use Rattle.std.proofs.lemmas.Bool.{false≢true}
 use mathlib.Core.List.{List, [], ◌∷◌, ◌++◌}
@@ -22,10 +22,6 @@ use Rattle.sheet_rows.specs.Rows.{row_holds}
 use Rattle.sheet_sections.specs.Sheet.{setting_numbers, rows_of, sheet}
 use Rattle.sheet_page.specs.Page.{sheet_settings, frames_in, well_formed, page_no, row_in, row_found, rows_in, numbers_of}
 use Rattle.sheet_page.specs.PageLaws.{numbers_length}
-use Rattle.pitch_sheet.specs.declared.Wrote.{Wrote}
-use Rattle.pitch_sheet.specs.declared.Wrote.TheVariants.{Written, Refused as NotWritten}
-use Rattle.pitch_sheet.specs.declared.Got.{Got}
-use Rattle.pitch_sheet.specs.declared.Got.TheVariants.{Read, Refused as NotRead}
 use Rattle.pitch_sheet.specs.Calls.{whole_rows, rows_hold, write_no, WriteOutcome, wrote, write_call, write_numbers, read_no, ReadOutcome, got, read_call, read_numbers}
 
 -- ---- rows
@@ -109,22 +105,22 @@ module _ (s : Settings) (n : ℕ) (t : List ℤ) (room : ℕ) where
       by false b c d e p q r u v z = absurd (false≢true (sym p ∙ eq-eqb (held_no s) 0 z))
 
 module _ (s : Settings) (n : ℕ) (t : List ℤ) (page : List ℕ) where
-  pub write_refused : (write_no s n t (length page) ≡ 0 → ⊥) → write_call s n t page ≡ wrote (NotWritten (write_no s n t (length page))) page
+  pub write_refused : (write_no s n t (length page) ≡ 0 → ⊥) → write_call s n t page ≡ wrote (Err (write_no s n t (length page))) page
   unfolding write_call
   write_refused g = rw (ne_eqb (write_no s n t (length page)) 0 g)
 
-  pub write_done : write_no s n t (length page) ≡ 0 → write_call s n t page ≡ wrote (Written (length (sheet s (rows_of t n)))) (sheet s (rows_of t n) ++ drop (length (sheet s (rows_of t n))) page)
+  pub write_done : write_no s n t (length page) ≡ 0 → write_call s n t page ≡ wrote (Ok (length (sheet s (rows_of t n)))) (sheet s (rows_of t n) ++ drop (length (sheet s (rows_of t n))) page)
   unfolding write_call
   write_done e = rw (eq-eqb (write_no s n t (length page)) 0 e)
 
   -- the answer with its numbers
-  pub write_answer : {r : Wrote} {after : List ℕ} → wrote r after ≡ write_call s n t page
+  pub write_answer : {r : Result ℕ ℕ} {after : List ℕ} → wrote r after ≡ write_call s n t page
       → (wrote r after ≡ write_call s n t page) × (write_numbers r ≡ answer_numbers (write_no s n t (length page)) (pos (length (sheet s (rows_of t n))) ∷ []))
   unfolding write_call write_numbers
   write_answer e = (e, ap (λ (o : WriteOutcome). write_numbers o.answer) e ∙ by (eqb (write_no s n t (length page)) 0) refl)
     where
       by : (b : Bool) → eqb (write_no s n t (length page)) 0 ≡ b
-          → write_numbers (cond b (wrote (Written (length (sheet s (rows_of t n)))) (sheet s (rows_of t n) ++ drop (length (sheet s (rows_of t n))) page)) (wrote (NotWritten (write_no s n t (length page))) page)).answer
+          → write_numbers (cond b (wrote (Ok (length (sheet s (rows_of t n)))) (sheet s (rows_of t n) ++ drop (length (sheet s (rows_of t n))) page)) (wrote (Err (write_no s n t (length page))) page)).answer
           ≡ pos (write_no s n t (length page)) ∷ cond b (pos (length (sheet s (rows_of t n))) ∷ []) []
       by true q = rw (eqb-true (write_no s n t (length page)) 0 q)
       by false q = refl
@@ -145,26 +141,26 @@ module _ (page : List ℕ) where
   sheet_page h = rw h
 
 module _ (page : List ℕ) (t : List ℤ) where
-  pub read_malformed : (page_no page ≡ 0 → ⊥) → read_call page t ≡ got (NotRead (page_no page)) t
+  pub read_malformed : (page_no page ≡ 0 → ⊥) → read_call page t ≡ got (Err (page_no page)) t
   unfolding read_call read_no
   read_malformed g = rw (ne_eqb (page_no page) 0 g) (rw (ne_eqb (page_no page) 0 g))
 
-  pub read_short : page_no page ≡ 0 → whole_rows t < frames_in page → read_call page t ≡ got (NotRead 7) t
+  pub read_short : page_no page ≡ 0 → whole_rows t < frames_in page → read_call page t ≡ got (Err 7) t
   unfolding read_call read_no
   read_short e h = rw (eq-eqb (page_no page) 0 e, lt-leb (frames_in page) (whole_rows t) h)
 
-  pub read_done : page_no page ≡ 0 → frames_in page ≤ whole_rows t → read_call page t ≡ got (Read (sheet_settings page) (frames_in page)) (numbers_of (rows_in page) ++ drop (frames_in page * row_size) t)
+  pub read_done : page_no page ≡ 0 → frames_in page ≤ whole_rows t → read_call page t ≡ got (Ok (sheet_settings page, frames_in page)) (numbers_of (rows_in page) ++ drop (frames_in page * row_size) t)
   unfolding read_call read_no
   read_done e h = rw (eq-eqb (page_no page) 0 e, le-leb (frames_in page) (whole_rows t) h)
 
   -- the answer with its numbers
-  pub read_answer : {r : Got} {after : List ℤ} → got r after ≡ read_call page t
+  pub read_answer : {r : Result (Settings × ℕ) ℕ} {after : List ℤ} → got r after ≡ read_call page t
       → (got r after ≡ read_call page t) × (read_numbers r ≡ answer_numbers (read_no page t) (setting_numbers (sheet_settings page) ++ (pos (frames_in page) ∷ [])))
   unfolding read_call read_numbers
   read_answer e = (e, ap (λ (o : ReadOutcome). read_numbers o.answer) e ∙ by (eqb (read_no page t) 0) refl)
     where
       by : (b : Bool) → eqb (read_no page t) 0 ≡ b
-          → read_numbers (cond b (got (Read (sheet_settings page) (frames_in page)) (numbers_of (rows_in page) ++ drop (frames_in page * row_size) t)) (got (NotRead (read_no page t)) t)).answer
+          → read_numbers (cond b (got (Ok (sheet_settings page, frames_in page)) (numbers_of (rows_in page) ++ drop (frames_in page * row_size) t)) (got (Err (read_no page t)) t)).answer
           ≡ pos (read_no page t) ∷ cond b (setting_numbers (sheet_settings page) ++ (pos (frames_in page) ∷ [])) []
       by true q = rw (eqb-true (read_no page t) 0 q)
       by false q = refl

@@ -1,5 +1,5 @@
 -- A page that is accepted is the sheet of the settings and rows that it reads as.
-use Rattle.std.specs.Prelude.{◌≡◌, Bool, true, false, ◌⊎◌, eqb, ℤ, pos, drop}
+use Rattle.std.specs.Prelude.{Some, ◌≡◌, Bool, true, false, ◌⊎◌, eqb, ℤ, pos, drop}
 use Rattle.std.proofs.Math.Path.{refl, sym, ap, ap₂}
 use Rattle.std.proofs.Common.{◌∙◌, inl, inr, add-one, eqb-true, length-drop, take-add, drop-drop, drop-cons, length-take-le, SFits}
 use mathlib.Core.List.{List, [], ◌∷◌, ◌++◌, map}
@@ -17,7 +17,6 @@ use Rattle.lists.specs.FillLaws.{length_tabulate, get_d_tabulate}
 use Rattle.pitch_table.specs.declared.Row.{Row}
 use Rattle.sheet_bytes.specs.Bytes.{Bytes, low_bytes, number_at, signed, signed_at}
 use Rattle.sheet_bytes.specs.BytesLaws.{bytes_at, signed_bytes_at, unsigned_bytes_at}
-use Rattle.sheet_rows.specs.declared.RowRead.TheVariants.{Held}
 use Rattle.sheet_rows.specs.Rows.{row_of, row_holds}
 use Rattle.sheet_rows.specs.RowsLaws.{stands, stands_pair, stands_again, holds_yes}
 use Rattle.sheet_sections.specs.declared.Section.{Section}
@@ -57,7 +56,7 @@ module _ (p : List ℕ) (bytes : Bytes p) (fine : well_formed p ≡ true) where
   abbrev row : ℕ → Row
   row i = row_found (row_in p i)
 
-  row_is : (i : ℕ) → i < frames_in p → row_in p i ≡ Held (row_found (row_in p i))
+  row_is : (i : ℕ) → i < frames_in p → row_in p i ≡ Some (row_found (row_in p i))
   row_is i l = g.rows i l
 
   decide : (i : ℕ) → (verdict_in p i ≡ 0) ⊎ (verdict_in p i ≡ 0 → ⊥)
@@ -79,7 +78,7 @@ module _ (p : List ℕ) (bytes : Bytes p) (fine : well_formed p ≡ true) where
     not_voiced : (verdict_in p i ≡ 0 → ⊥) → (row i).verdict ≡ pos 0 → ⊥
     not_voiced o e = o (ap nat_abs (sym verdict_is ∙ e))
 
-    row_stands : row_of (sheet_settings p) (row i).verdict (row i).index (row i).contour (row i).correlation ≡ Held (row i)
+    row_stands : row_of (sheet_settings p) (row i).verdict (row i).index (row i).contour (row i).correlation ≡ Some (row i)
     row_stands =
         ⊎_elim
         (λ z.

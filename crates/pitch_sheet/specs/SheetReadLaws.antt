@@ -1,5 +1,5 @@
 -- A page that is the sheet of settings and rows reads back to them.
-use Rattle.std.specs.Prelude.{◌≡◌, refl, Bool, true, false, cond, ◌⊎◌, eqb, ℤ, pos, take, drop}
+use Rattle.std.specs.Prelude.{Some, ◌≡◌, refl, Bool, true, false, cond, ◌⊎◌, eqb, ℤ, pos, take, drop}
 use Rattle.std.proofs.Math.Path.{sym, ap, ap₂}
 use Rattle.std.proofs.Common.{◌∙◌, inl, inr, ⊎_elim, add-zero, add-one, eqb-true, length-append, take-suc, get_or-append-add, length-take-le}
 use mathlib.Core.List.{List, [], ◌∷◌, ◌++◌, map, append_assoc, append-nil}
@@ -19,7 +19,6 @@ use Rattle.pitch_table.specs.declared.Row.{Row}
 use Rattle.pitch_table.specs.Row.{most_frames}
 use Rattle.sheet_bytes.specs.Bytes.{low_bytes, number, number_at, word, signed, signed_at}
 use Rattle.sheet_bytes.specs.BytesLaws.{length_bytes, length_signed, number_at_bytes, word_lt, word_nat, signed_word}
-use Rattle.sheet_rows.specs.declared.RowRead.TheVariants.{Held}
 use Rattle.pitch_table.specs.Row.{unpitched_row}
 use Rattle.sheet_rows.specs.Rows.{FieldsFit, row_of, row_holds}
 use Rattle.sheet_rows.specs.RowsLaws.{Stands, voiced, unpitched, stands, holds_means, holds_fit}
@@ -353,10 +352,10 @@ module _ (s : Settings) (rs : List Row) (h : Holds s rs) where
 
   -- ---- the rows
 
-  row_is : (i : ℕ) → i < length rs → row_in p i ≡ Held (get_or rs i no_row)
+  row_is : (i : ℕ) → i < length rs → row_in p i ≡ Some (get_or rs i no_row)
   row_is i l = ⊎_elim when_voiced when_quiet (decide i l)
     where
-      when_voiced : verdict_in p i ≡ 0 → row_in p i ≡ Held (get_or rs i no_row)
+      when_voiced : verdict_in p i ≡ 0 → row_in p i ≡ Some (get_or rs i no_row)
       when_voiced z =
           let r = get_or rs i no_row in
           let a = index_is i l z in
@@ -369,7 +368,7 @@ module _ (s : Settings) (rs : List Row) (h : Holds s rs) where
           ∙ (λ t. row_of s (sym w t) (sym k.index t) (sym k.contour t) r.correlation)
           ∙ holds_means s r (fine i l)
 
-      when_quiet : (verdict_in p i ≡ 0 → ⊥) → row_in p i ≡ Held (get_or rs i no_row)
+      when_quiet : (verdict_in p i ≡ 0 → ⊥) → row_in p i ≡ Some (get_or rs i no_row)
       when_quiet g =
           let r = get_or rs i no_row in
           let d = verdict_is i l in

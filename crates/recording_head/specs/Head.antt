@@ -1,5 +1,5 @@
 -- The head of a recording (docs/FORMAT.md): the bytes before its samples, little-endian, which say the settings of its track. Definitions only.
-use Rattle.std.specs.Prelude.{Bool, true, cond, List, ℕ, ◌+◌, eqb, leb, pos, get_or}
+use Rattle.std.specs.Prelude.{Bool, true, cond, List, ℕ, zero, suc, ◌+◌, eqb, leb, pos, get_or, Result, Ok, Err}
 use Rattle.sheet_bytes.specs.Bytes.{signed_at}
 use Rattle.pitch_input.specs.Input.{head_size, input_settings, sample_at}
 use Rattle.track_settings.specs.declared.Speech.{Speech}
@@ -7,6 +7,9 @@ use Rattle.track_settings.specs.declared.SecondThreshold.{SecondThreshold}
 use Rattle.track_settings.specs.declared.SecondThreshold.TheVariants.{Fixed, FromSpeech}
 use Rattle.track_settings.specs.declared.TrackSettings.{TrackSettings}
 use Rattle.track_settings.specs.TrackSettings.{fixed_settings}
+use Rattle.recording_head.specs.declared.Kind.{Kind}
+use Rattle.recording_head.specs.declared.Kind.TheVariants as kinds
+use Rattle.recording_head.specs.declared.NoKind.{NoKind}
 use Rattle.recording_head.specs.declared.Head.{Head}
 use Rattle.recording_head.specs.declared.Head.TheVariants.{Plain, Options}
 
@@ -30,6 +33,12 @@ longest_head_size = options_size
 -- what the thresholds are found from, in the four bytes from `at` on: order and activity, a byte each, and the tilt, two signed bytes
 unfoldable pub speech_in : List ℕ → ℕ → Speech
 speech_in b at = record { order = pos (get_or b at 0); activity = pos (get_or b (at + 1) 0); tilt = sample_at b (at + 2) }
+
+-- the kind with this number
+unfoldable pub kind_of : ℕ → Result Kind NoKind
+kind_of zero = Ok kinds.Fixed
+kind_of (suc zero) = Ok kinds.FromSpeech
+kind_of (suc (suc n)) = Err (record {})
 
 -- the second threshold, in the four bytes from `at` on: kind 1 from the speech, any other a fixed one, signed
 unfoldable pub second_in : ℕ → List ℕ → ℕ → SecondThreshold

@@ -2,7 +2,7 @@
 #![tactic(auto)]
 
 ghost use Rattle.std.specs.Prelude.{◌≡◌, ◌+◌, ◌≤◌, length};
-ghost use Rattle.recording_head.specs.Head.{options_size, bytes_of_head, speech_in, second_in, options_settings, head_settings, head_known};
+ghost use Rattle.recording_head.specs.Head.{options_size, bytes_of_head, kind_of, speech_in, second_in, options_settings, head_settings, head_known};
 
 use pitch_input::{HEAD_SIZE, sample_at, settings_in};
 use sheet_bytes::i32_at;
@@ -13,9 +13,34 @@ use track_settings::{SecondThreshold, Speech, TrackSettings, fixed_settings};
 pub enum Head {
     // rate, subframe count and complexity, a byte each; the two thresholds, four signed bytes each
     Plain,
-    // rate, subframe count, complexity and the kind of the second threshold, a byte each; the first threshold, four signed bytes; and four bytes for the second: kind 0 is a fixed one, signed;
-    // kind 1 comes from the speech: order and activity, a byte each, and the tilt, two signed bytes
+    // rate, subframe count, complexity and the kind of the second threshold, a byte each; the first threshold, four signed bytes; and four bytes for the second: a fixed one is signed, and one
+    // from the speech has order and activity, a byte each, and the tilt, two signed bytes
     Options,
+}
+
+// The kinds of a second threshold.
+#[derive(Clone, Copy)]
+enum Kind {
+    Fixed,
+    FromSpeech,
+}
+
+// A byte that is the number of no kind.
+#[derive(Clone, Copy)]
+struct NoKind;
+
+impl TryFrom<u8> for Kind {
+    type Error = NoKind;
+
+    ghost try_from_gives = { λ number kind. kind ≡ kind_of number };
+
+    fn try_from(number: u8) -> Result<Kind, NoKind> {
+        match number {
+            0 => Ok(Kind::Fixed),
+            1 => Ok(Kind::FromSpeech),
+            _ => Err(NoKind),
+        }
+    }
 }
 
 // The bytes of the head that names options.
@@ -46,17 +71,15 @@ fn speech_in(bytes: &[u8], at: usize) -> Speech
     }
 }
 
-// The second threshold of this kind, in the four bytes from `at` on.
-fn second_in(kind: u8, bytes: &[u8], at: usize) -> SecondThreshold
+// The second threshold of the kind with this number, in the four bytes from `at` on: a fixed one where no kind has it.
+fn second_in(number: u8, bytes: &[u8], at: usize) -> SecondThreshold
     requires { at + 4 ≤ length bytes.now }
-    ensures { result ≡ second_in kind bytes.now at }
+    ensures { result ≡ second_in number bytes.now at }
 {
-    if kind == 1 {
-        let m = speech_in(bytes, at);
-        return SecondThreshold::FromSpeech(m);
+    match Kind::try_from(number).unwrap_or(Kind::Fixed) {
+        Kind::Fixed => SecondThreshold::Fixed(i32_at(bytes, at)),
+        Kind::FromSpeech => SecondThreshold::FromSpeech(speech_in(bytes, at)),
     }
-    let thres2 = i32_at(bytes, at);
-    SecondThreshold::Fixed(thres2)
 }
 
 // The settings in a head that names options.
@@ -91,6 +114,6 @@ pub fn head_known(head: Head, bytes: &[u8]) -> bool
 {
     match head {
         Head::Plain => true,
-        Head::Options => bytes[3] <= 1,
+        Head::Options => Kind::try_from(bytes[3]).is_ok(),
     }
 }

@@ -1,143 +1,120 @@
 // What the programs share that take a recording or a sheet: reading standard input, writing standard output, and telling on standard error that either failed.
-// Each is a reader or a writer that is handed over. What is stated is how many bytes of the buffer count and how a read's answer is taken, and, where it is known which bytes a reader
+// Each is a reader or a writer that is handed over. What is stated is how many bytes of the buffer count, when a read that fails ends the reading and, where it is known which bytes a reader
 // has or a writer holds, that those of the buffer are what the reader lost, and the text is what the writer got.
 // A read that a signal interrupts before it moves a byte counts as one that failed; a write is begun again then, as std does it.
 #![tactic(auto)]
 
-ghost use Rattle.std.specs.Prelude.{true, false, ◌≡◌, ℕ, ◌*◌, ◌<◌, ◌≤◌, List, ◌++◌, take, length};
+ghost use Rattle.std.specs.Prelude.{◌≡◌, ℕ, ◌*◌, ◌<◌, ◌≤◌, List, ◌++◌, take, length, IfOk, OnOk, OnErr};
 ghost use Rattle.std.specs.Io.KnownBytes.{Appends, Consumes, IsAtEnd};
 ghost use Rattle.recording_io.specs.Counts.{IsPrefixLen};
-ghost use Rattle.recording_io.specs.ReadAnswer.{most_reads, read_answer};
+ghost use Rattle.recording_io.specs.declared.Failure.TheVariants.{Reading};
+ghost use Rattle.recording_io.specs.ReadAnswer.{most_reads, so_far};
 
-use std::io;
+use rooms::room;
 use std::io::{Read, Write};
 
 // The reads after which `read_whole` stops counting, where it is to count the whole rest: 2 to the 40.
 pub const EVERY: usize = 1099511627776;
 
-// How many bytes were read, and whether a read failed.
-#[derive(Drop)]
-pub struct Input {
-    pub count: usize,
-    pub failed: bool,
-}
-
-// How many bytes were read into a buffer and, where they fill it, how many more there were; and whether a read failed.
-#[derive(Drop)]
+// How many bytes were read into a buffer and, where they fill it, how many more there were.
+#[derive(Clone, Copy)]
 pub struct Whole {
     pub count: usize,
     pub more: usize,
-    pub failed: bool,
 }
 
-// What a read's answer says: an error that it failed, a number how many bytes it brought, 0 at the end of the input.
-fn taken(got: io::Result<usize>, part: &[u8]) -> Input
-    ensures value { result ≡ read_answer got (length part.now) }
-    ensures count_in_bounds { result.count ≤ length part.now }
-{
-    Input {
-        count: got.unwrap_or(0).min(part.len()),
-        failed: got.is_err(),
+// A read failed: what the answer would have been where the input ended there.
+#[derive(Clone, Copy)]
+pub struct Unread<T> {
+    pub so_far: T,
+}
+
+// Why a program did not do all: reading its input failed, or writing its output.
+#[derive(Clone, Copy)]
+pub enum Failure {
+    Reading,
+    Writing,
+}
+
+impl<T: Copy> From<Unread<T>> for Failure {
+    ghost from_gives = { λ _ failure. failure ≡ Reading };
+
+    fn from(_unread: Unread<T>) -> Failure {
+        Failure::Reading
     }
-}
-
-// 65,536 zeros, for a loop that moves much data. The `ensures` gives only the length, so that nothing unfolds the zeros.
-fn large_buffer() -> [u8; 65536]
-    ensures { 65536 ≡ length result }
-{
-    [0; 65536]
-}
-
-// One read of the input, straight into `part`.
-fn read_once<R: Read>(input: &mut R, part: &mut [u8]) -> Input
-    ensures count_in_bounds { result.count ≤ length part.new }
-    ensures none_failed { result.failed ≡ true → result.count ≡ 0 }
-    ensures bytes { Consumes (R.remaining input.old) (R.remaining input.new) (take result.count part.new) }
-    ensures end { result.failed ≡ false → result.count ≡ 0 → 0 < length part.new → IsAtEnd (R.remaining input.new) }
-{
-    let got = input.read(part);
-    taken(got, part)
 }
 
 // Reads the input until `buf` is full, the input ends or a read fails; then `buf` is not full. Of the bytes past the count nothing is known.
-pub fn read_input<R: Read>(input: &mut R, buf: &mut [u8]) -> Input
-    ensures prefix_len { IsPrefixLen result.count buf.new }
-    ensures count_in_bounds { result.failed ≡ true → result.count < length buf.new }
-    ensures bytes { Consumes (R.remaining input.old) (R.remaining input.new) (take result.count buf.new) }
-    ensures end { result.failed ≡ false → result.count < length buf.new → IsAtEnd (R.remaining input.new) }
+pub fn read_input<R: Read>(input: &mut R, buf: &mut [u8]) -> Result<usize, Unread<usize>>
+    ensures prefix_len { IsPrefixLen (so_far result) buf.new }
+    ensures unread { OnErr result (so_far result < length buf.new) }
+    ensures bytes { Consumes (R.remaining input.old) (R.remaining input.new) (take (so_far result) buf.new) }
+    ensures end { IfOk result (λ count. count < length buf.new → IsAtEnd (R.remaining input.new)) }
 {
     let mut done = 0;
     while done < buf.len() {
-        let got = read_once(input, &mut buf[done..]);
-        if got.failed {
-            return Input {
-                count: done,
-                failed: true,
-            };
+        match input.read(&mut buf[done..]) {
+            Ok(0) => return Ok(done),
+            Ok(count) => done += count,
+            Err(_) => return Err(Unread { so_far: done }),
         }
-        let count = got.count;
-        if count == 0 {
-            return Input {
-                count: done,
-                failed: false,
-            };
-        }
-        done += count;
     }
-    Input {
-        count: done,
-        failed: false,
-    }
+    Ok(done)
 }
 
 // How many bytes are left to read, by so many reads at most.
-fn count_rest<R: Read>(input: &mut R, reads: usize) -> Input
+fn count_rest<R: Read>(input: &mut R, reads: usize) -> Result<usize, Unread<usize>>
     requires { reads ≤ most_reads }
-    ensures count_in_bounds { result.count ≤ 65536 * reads }
-    ensures bytes { (rest : List ℕ) × (length rest ≡ result.count) × Consumes (R.remaining input.old) (R.remaining input.new) rest }
-    ensures end { result.failed ≡ false → result.count < reads → IsAtEnd (R.remaining input.new) }
+    ensures count_in_bounds { so_far result ≤ 65536 * reads }
+    ensures bytes { (rest : List ℕ) × (length rest ≡ so_far result) × Consumes (R.remaining input.old) (R.remaining input.new) rest }
+    ensures end { IfOk result (λ count. count < reads → IsAtEnd (R.remaining input.new)) }
 {
-    let mut chunk = large_buffer();
+    let mut chunk = room::<u8, 65536>(0);
     let mut total = 0;
     for _ in 0..reads {
-        let got = read_once(input, &mut chunk);
-        let count = got.count;
-        if got.failed || count == 0 {
-            return Input {
-                count: total,
-                failed: got.failed,
-            };
+        match input.read(&mut chunk) {
+            Ok(0) => return Ok(total),
+            Ok(count) => total += count,
+            Err(_) => return Err(Unread { so_far: total }),
         }
-        total += count;
     }
-    Input {
-        count: total,
-        failed: false,
-    }
+    Ok(total)
 }
 
 // Reads the input into `buf` and, where it is full, counts what is left by so many reads at most.
-pub fn read_whole<R: Read>(input: &mut R, buf: &mut [u8], reads: usize) -> Whole
+pub fn read_whole<R: Read>(
+    input: &mut R,
+    buf: &mut [u8],
+    reads: usize,
+) -> Result<Whole, Unread<Whole>>
     requires { reads ≤ most_reads }
-    ensures prefix_len { IsPrefixLen result.count buf.new }
-    ensures count_value { 0 < result.more → result.count ≡ length buf.new }
-    ensures bytes { (rest : List ℕ) × (length rest ≡ result.more) × Consumes (R.remaining input.old) (R.remaining input.new) (take result.count buf.new ++ rest) }
-    ensures end { result.failed ≡ false → result.more < reads → IsAtEnd (R.remaining input.new) }
+    ensures prefix_len { IsPrefixLen (so_far result).count buf.new }
+    ensures count_value { 0 < (so_far result).more → (so_far result).count ≡ length buf.new }
+    ensures bytes { (rest : List ℕ) × (length rest ≡ (so_far result).more) × Consumes (R.remaining input.old) (R.remaining input.new) (take (so_far result).count buf.new ++ rest) }
+    ensures end { IfOk result (λ whole. whole.more < reads → IsAtEnd (R.remaining input.new)) }
 {
-    let got = read_input(input, buf);
-    let count = got.count;
+    let count = match read_input(input, buf) {
+        Ok(count) => count,
+        Err(unread) => {
+            return Err(Unread {
+                so_far: Whole {
+                    count: unread.so_far,
+                    more: 0,
+                },
+            });
+        }
+    };
     if count < buf.len() {
-        return Whole {
-            count,
-            more: 0,
-            failed: got.failed,
-        };
+        return Ok(Whole { count, more: 0 });
     }
-    let rest = count_rest(input, reads);
-    Whole {
-        count,
-        more: rest.count,
-        failed: rest.failed,
+    match count_rest(input, reads) {
+        Ok(more) => Ok(Whole { count, more }),
+        Err(unread) => Err(Unread {
+            so_far: Whole {
+                count,
+                more: unread.so_far,
+            },
+        }),
     }
 }
 
@@ -147,17 +124,17 @@ pub fn read_recording<R: Read, E: Write>(
     errors: &mut E,
     name: &[u8],
     buf: &mut [u8],
-) -> Whole
-    ensures prefix_len { IsPrefixLen result.count buf.new }
-    ensures count_value { 0 < result.more → result.count ≡ length buf.new }
-    ensures bytes { (rest : List ℕ) × (length rest ≡ result.more) × Consumes (R.remaining input.old) (R.remaining input.new) (take result.count buf.new ++ rest) }
-    ensures end { result.failed ≡ false → result.more < most_reads → IsAtEnd (R.remaining input.new) }
+) -> Result<Whole, Unread<Whole>>
+    ensures prefix_len { IsPrefixLen (so_far result).count buf.new }
+    ensures count_value { 0 < (so_far result).more → (so_far result).count ≡ length buf.new }
+    ensures bytes { (rest : List ℕ) × (length rest ≡ (so_far result).more) × Consumes (R.remaining input.old) (R.remaining input.new) (take (so_far result).count buf.new ++ rest) }
+    ensures end { IfOk result (λ whole. whole.more < most_reads → IsAtEnd (R.remaining input.new)) }
 {
-    let got = read_whole(input, buf, EVERY);
-    if got.failed {
+    let whole = read_whole(input, buf, EVERY);
+    if whole.is_err() {
         say_unread(errors, name);
     }
-    got
+    whole
 }
 
 // A line on standard error: the program's name, and what failed.
@@ -171,18 +148,18 @@ pub fn say_unread<E: Write>(errors: &mut E, name: &[u8]) {
     complain(errors, name, b": reading standard input failed\n");
 }
 
-// Writes all of `text` to standard output, or says that this failed: some of it may have been written then. Whether it was written.
+// Writes all of `text` to standard output, or says that this failed: some of it may have been written then.
 pub fn write_output<W: Write, E: Write>(
     output: &mut W,
     errors: &mut E,
     name: &[u8],
     text: &[u8],
-) -> bool
-    ensures { result ≡ true → Appends (W.contents output.old) (W.contents output.new) text.now }
+) -> Result<(), Failure>
+    ensures { OnOk result (Appends (W.contents output.old) (W.contents output.new) text.now) }
 {
-    let written = output.write_all(text).is_ok();
-    if !written {
+    if output.write_all(text).is_err() {
         complain(errors, name, b": writing standard output failed\n");
+        return Err(Failure::Writing);
     }
-    written
+    Ok(())
 }

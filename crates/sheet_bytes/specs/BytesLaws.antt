@@ -1,14 +1,18 @@
 -- Laws of little-endian numbers: bytes and number are each other's inverse, and the steps by which the code takes them apart and puts them together.
-use Rattle.std.specs.Prelude.{◌≡◌, refl, ℕ, zero, suc, ◌+◌, ◌*◌, ◌/◌, ◌%◌, ◌^◌, ◌≤◌, ◌<◌, ℤ, pos, length, get_or, take, drop, set}
-use Rattle.std.proofs.Common.{sym, ap₂, ◌∙◌, arith, length-drop, drop-cons, drop_at, take_at, get_or-drop, length-take-le, SFits}
+use Rattle.std.specs.Prelude.{◌≡◌, refl, ℕ, zero, suc, ◌+◌, ◌*◌, ◌/◌, ◌%◌, ◌^◌, ◌≤◌, ◌<◌, ℤ, pos, length, get_or, take, drop}
+use Rattle.std.proofs.Common.{sym, ap₂, ◌∙◌, arith, length-drop, drop-cons, drop_at, take_at, get_or-drop, length-take-le, append_assoc, SFits}
 use Rattle.std.proofs.Math.Path.{ap}
 use mathlib.Core.List.{List, [], ◌∷◌, ◌++◌}
-use Rattle.std.proofs.Math.Numerals.{towards_suc}
-use Rattle.std.proofs.Math.Arith.{digits_div, digits_mod, mod-mul}
-use Rattle.std.proofs.lemmas.List.Edits.{sets}
+use Rattle.std.proofs.Math.Arith.{digits_div, digits_mod}
+use borrow.Rule.Slice.PartMut.{put_mid}
+use Rattle.std.proofs.lemmas.List.Edits.{sets, sets-eq, paste_all}
+use Rattle.std.proofs.lemmas.Slice.{put_mid-paste}
+use Rattle.std.specs.Int.{w16, to_le_bytes}
 use mir.Syntax.{w32}
+use mir.Val.{of_z, to_z}
+use mir.ValLaws.{of_z_fits}
 use Rattle.zint.specs.Wrap.{mod_z, wrap}
-use Rattle.zint.specs.WrapLaws.{mod_z_is, mod_z_lt, mod_z_cong, wrap_cong, wrap_is, cong_sym}
+use Rattle.zint.specs.WrapLaws.{mod_z_is, of_z_cong, mod_z_lt, mod_z_cong, wrap_cong, wrap_is, cong_sym}
 use Rattle.sheet_bytes.specs.Bytes.{Bytes, low_bytes, number, number_at, word, signed, signed_at}
 
 -- ---- bytes and number
@@ -122,33 +126,49 @@ unfolding number_at number
 number_next k p at next e h =
     ap (λ (l : List ℕ). number (take (suc k) l)) (drop-cons p at 0 h) ∙ ap (λ (n : ℕ). get_or p at 0 + 256 * number (take k (drop n p))) (sym e)
 
+-- the values of two and of four bytes, as std adds them up
 pub number_2 : (p : List ℕ) (at : ℕ) → at + 2 ≤ length p → get_or p at 0 + get_or p (at + 1) 0 * 256 ≡ number_at 2 p at
 number_2 p at h =
     omega (arith, number_next 1 p at (at + 1) (omega arith) (omega arith), number_next 0 p (at + 1) (at + 2) (omega arith) (omega arith), number_none p (at + 2))
 
-pub number_4 : (p : List ℕ) (at : ℕ) → at + 4 ≤ length p → number_at 2 p at + number_at 2 p (at + 2) * 65536 ≡ number_at 4 p at
+pub number_4 : (p : List ℕ) (at : ℕ) → at + 4 ≤ length p
+    → get_or p at 0 + get_or p (at + 1) 0 * 256 + get_or p (at + 2) 0 * 65536 + get_or p (at + 3) 0 * 16777216 ≡ number_at 4 p at
 number_4 p at h =
     omega (
       arith,
-      number_2 p at (omega arith),
       number_next 3 p at (at + 1) (omega arith) (omega arith),
       number_next 2 p (at + 1) (at + 2) (omega arith) (omega arith),
+      number_next 1 p (at + 2) (at + 3) (omega arith) (omega arith),
+      number_next 0 p (at + 3) (at + 4) (omega arith) (omega arith),
+      number_none p (at + 4),
     )
 
-small : (x : ℕ) → x < 256 → x % 256 ≡ x
-small x h = omega arith
-
-pub put_2 : (p : List ℕ) (at n : ℕ) → n < 65536 → set (set p at (n % 256)) (at + 1) (n / 256) ≡ sets p at (low_bytes 2 n)
+-- the bytes of a number, as std takes them apart
+pub bytes_2 : (n : ℕ) → to_le_bytes w16 n ≡ low_bytes 2 n
 unfolding low_bytes
-put_2 p at n h =
-    simp towards_suc (ap (set (set p at (n % 256)) (suc at)) (sym (small (n / 256) (omega arith))))
+bytes_2 n = refl
 
-pub put_4 : (p : List ℕ) (at n : ℕ) → n < 4294967296 → sets (sets p at (low_bytes 2 (n % 65536))) (at + 2) (low_bytes 2 (n / 65536)) ≡ sets p at (low_bytes 4 n)
+pub bytes_4 : (n : ℕ) → to_le_bytes w32 n ≡ low_bytes 4 n
 unfolding low_bytes
-put_4 p at n h =
-    let a : n % 65536 % 256 ≡ n % 256 = omega arith in
-    let m : n % 65536 ≡ n / 256 % 256 * 256 + n % 256 = mod-mul n (omega arith) (omega arith) in
-    let s : n % 65536 / 256 ≡ n / 256 % 256 = ap (λ (x : ℕ). x / 256) m ∙ digits_div (n / 256 % 256) (omega arith) in
-    let b : n % 65536 / 256 % 256 ≡ n / 256 % 256 = ap (λ (x : ℕ). x % 256) s ∙ small (n / 256 % 256) (omega arith) in
-    let c : n / 65536 ≡ n / 256 / 256 = omega arith in
-    simp (towards_suc, a, b, c)
+bytes_4 n =
+    let a : n / 65536 ≡ n / 256 / 256 = omega arith in
+    let b : n / 16777216 ≡ n / 256 / 256 / 256 = omega arith in
+    rw (a, b)
+
+-- the k lowest bytes of a number, written over as many of the page
+pub placed : (k n : ℕ) (p bytes : List ℕ) (at width : ℕ) → bytes ≡ low_bytes k n → width ≡ k → at + k ≤ length p → put_mid at width p bytes ≡ sets p at (low_bytes k n)
+placed k n p bytes at width e w h =
+    let b = low_bytes k n in
+    let l : k ≡ length b = sym (length_bytes k n) in
+    put_mid-paste at width p bytes b k e (sym w) l
+    ∙ paste_all p at b k l
+    ∙ sym (sets-eq b p at (omega arith) ∙ append_assoc (take at p) b _ ∙ ap (λ (m : ℕ). take at p ++ (b ++ drop (at + m) p)) (sym l))
+
+-- the bits of a signed number, and the number of these bits
+pub word_is : (z : ℤ) → SFits w32 z → of_z w32 z ≡ word z
+unfolding word
+word_is z f = sym (mod_z_is z 4294967296 (of_z w32 z) (of_z_fits w32 z f).fits (of_z_cong w32 z f))
+
+pub signed_is : (n : ℕ) → n < 4294967296 → to_z w32 n ≡ wrap w32 (pos n)
+unfolding wrap mod_z
+signed_is n h = let e : n % 4294967296 ≡ n = omega arith in ap (to_z w32) (sym e)

@@ -5,14 +5,12 @@ ghost use Rattle.std.specs.Prelude.{◌≡◌, ◌+◌, ◌≤◌, length};
 ghost use Rattle.std.proofs.lemmas.List.Edits.{sets};
 ghost use Rattle.sheet_bytes.specs.Bytes.{low_bytes, number_at, signed, signed_at};
 
-use zint::{bits_u32, low32};
-
 // The unsigned number in the two bytes from `at` on.
 pub fn u16_at(page: &[u8], at: usize) -> u16
     requires { at + 2 ≤ length page.now }
     ensures { result ≡ number_at 2 page.now at }
 {
-    page[at] as u16 + page[at + 1] as u16 * 256
+    u16::from_le_bytes([page[at], page[at + 1]])
 }
 
 // The unsigned number in the four bytes from `at` on.
@@ -20,7 +18,7 @@ pub fn u32_at(page: &[u8], at: usize) -> u32
     requires { at + 4 ≤ length page.now }
     ensures { result ≡ number_at 4 page.now at }
 {
-    u16_at(page, at) as u32 + u16_at(page, at + 2) as u32 * 65536
+    u32::from_le_bytes([page[at], page[at + 1], page[at + 2], page[at + 3]])
 }
 
 // The signed number in the four bytes from `at` on.
@@ -28,7 +26,7 @@ pub fn i32_at(page: &[u8], at: usize) -> i32
     requires { at + 4 ≤ length page.now }
     ensures { result ≡ signed_at page.now at }
 {
-    low32(u32_at(page, at) as i64)
+    u32_at(page, at).cast_signed()
 }
 
 // Writes an unsigned number in the two bytes from `at` on; the others stay.
@@ -36,8 +34,7 @@ pub fn put_u16(page: &mut [u8], at: usize, n: u16)
     requires { at + 2 ≤ length page.old }
     ensures { page.new ≡ sets page.old at (low_bytes 2 n) }
 {
-    page[at] = (n % 256) as u8;
-    page[at + 1] = (n / 256) as u8;
+    page[at..at + 2].copy_from_slice(&n.to_le_bytes());
 }
 
 // Writes an unsigned number in the four bytes from `at` on; the others stay.
@@ -45,8 +42,7 @@ pub fn put_u32(page: &mut [u8], at: usize, n: u32)
     requires { at + 4 ≤ length page.old }
     ensures { page.new ≡ sets page.old at (low_bytes 4 n) }
 {
-    put_u16(page, at, (n % 65536) as u16);
-    put_u16(page, at + 2, (n / 65536) as u16);
+    page[at..at + 4].copy_from_slice(&n.to_le_bytes());
 }
 
 // Writes a signed number in the four bytes from `at` on; the others stay.
@@ -54,5 +50,5 @@ pub fn put_i32(page: &mut [u8], at: usize, z: i32)
     requires { at + 4 ≤ length page.old }
     ensures { page.new ≡ sets page.old at (signed z) }
 {
-    put_u32(page, at, bits_u32(z));
+    put_u32(page, at, z.cast_unsigned());
 }

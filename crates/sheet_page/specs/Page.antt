@@ -1,6 +1,6 @@
 -- What a page holds, by place (docs/SCOPE.md, Sheet), and when it is a sheet: read it beside the bytes of a sheet, `Sheet` of sheet_sections. Definitions only; the laws are in
 -- `PageLaws`.
-use Rattle.std.specs.Prelude.{Bool, true, false, ◌&&◌, cond, List, [], ◌∷◌, ◌++◌, ℕ, zero, suc, ◌+◌, ◌*◌, eqb, leb, ℤ, pos, length, get_or}
+use Rattle.std.specs.Prelude.{Bool, true, false, ◌&&◌, cond, List, [], ◌∷◌, ◌++◌, ℕ, zero, suc, ◌+◌, ◌*◌, eqb, leb, ℤ, pos, length, get_or, Option, Some, None}
 use Rattle.best.specs.Best.{every}
 use Rattle.lists.specs.Fill.{tabulate}
 use Rattle.pitch_settings.specs.declared.Settings.{Settings}
@@ -8,12 +8,9 @@ use Rattle.pitch_settings.specs.Settings.{held_no}
 use Rattle.pitch_table.specs.declared.Row.{Row}
 use Rattle.pitch_table.specs.Row.{most_frames, numbers, unpitched_row}
 use Rattle.sheet_bytes.specs.Bytes.{number_at, signed_at}
-use Rattle.sheet_rows.specs.declared.RowRead.{RowRead}
-use Rattle.sheet_rows.specs.declared.RowRead.TheVariants.{Held, Bad}
 use Rattle.sheet_rows.specs.Rows.{row_of}
 use Rattle.sheet_sections.specs.declared.Section.TheVariants.{Pairs, Correlations}
 use Rattle.sheet_sections.specs.Sheet.{settings_count, count_bytes, setting_bytes, index_bytes, entry_bytes, setting_place, frames_at, verdicts_at, pairs_count_at, pairs_at, correlations_count_at, correlations_at, sheet_length}
-use Rattle.sheet_page.specs.declared.Head.{Head}
 
 -- the settings after their count, then the frames' count, then a byte a frame, its verdict
 unfoldable pub sheet_settings : List ℕ → Settings
@@ -40,9 +37,6 @@ voiced_before p (suc i) = voiced_before p i + cond (eqb (verdict_in p i) 0) 1 0
 unfoldable pub voiced_in : List ℕ → ℕ
 voiced_in p = voiced_before p (frames_in p)
 
-abbrev pub head_in : List ℕ → Head
-head_in p = record { settings = sheet_settings p; frames = frames_in p; voiced = voiced_in p }
-
 -- where the pairs' count stands, and after it the pair of frame i where it is voiced; where the correlations' count stands, and after it the correlation of frame i
 unfoldable pub pairs_from : List ℕ → ℕ
 pairs_from p = pairs_count_at (frames_in p)
@@ -57,15 +51,15 @@ unfoldable pub correlation_place : List ℕ → ℕ → ℕ
 correlation_place p i = correlations_at (frames_in p) (voiced_in p) + entry_bytes Correlations * voiced_before p i
 
 -- frame i's row: what its verdict, and where it is voiced its pair and its correlation, stand for
-unfoldable pub row_in : List ℕ → ℕ → RowRead
+unfoldable pub row_in : List ℕ → ℕ → Option Row
 row_in p i =
     cond (eqb (verdict_in p i) 0)
     (row_of (sheet_settings p) (pos 0) (pos (number_at index_bytes p (pair_place p i))) (pos (get_or p (pair_place p i + index_bytes) 0)) (signed_at p (correlation_place p i)))
     (row_of (sheet_settings p) (pos (verdict_in p i)) (pos 0) (pos 0) (pos 0))
 
-unfoldable pub readable : RowRead → Bool
-readable (Held r) = true
-readable Bad = false
+unfoldable pub readable : Option Row → Bool
+readable (Some r) = true
+readable None = false
 
 -- ---- when it is a sheet
 
@@ -93,9 +87,9 @@ page_no p = cond (well_formed p) 0 9
 -- ---- its rows
 
 -- the row that was read (the second clause is for totality: no sheet has such a row)
-unfoldable pub row_found : RowRead → Row
-row_found (Held r) = r
-row_found Bad = unpitched_row (pos 1)
+unfoldable pub row_found : Option Row → Row
+row_found (Some r) = r
+row_found None = unpitched_row (pos 1)
 
 unfoldable pub rows_in : List ℕ → List Row
 rows_in p = tabulate (λ i. row_found (row_in p i)) (frames_in p)

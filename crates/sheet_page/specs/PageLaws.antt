@@ -1,7 +1,7 @@
 -- What a page that is a sheet says, place by place, and the steps by which the code reads it.
-use Rattle.std.specs.Prelude.{◌≡◌, Bool, ◌&&◌, ℕ, zero, suc, ◌+◌, ◌-◌, ◌*◌, ◌≤◌, ◌<◌, ℤ, pos, get_or}
+use Rattle.std.specs.Prelude.{◌≡◌, Bool, ◌&&◌, ℕ, zero, suc, ◌+◌, ◌-◌, ◌*◌, ◌≤◌, ◌<◌, ℤ, pos, get_or, take, drop, count_by, ◌==◌, Option, Some, None}
 use Rattle.std.proofs.Math.Path.{refl, sym, ap}
-use Rattle.std.proofs.Common.{◌∙◌, add-one, length-append, of_z}
+use Rattle.std.proofs.Common.{◌∙◌, ap₂, add-one, length-drop, length-append, of_z}
 use Rattle.std.proofs.Math.Bool.{true, false, cond}
 use Rattle.std.proofs.lemmas.Bool.{false≢true}
 use mathlib.Core.List.{List, [], ◌∷◌, ◌++◌, append_assoc}
@@ -11,6 +11,8 @@ use borrow.Author.Tests.{eqb-true, eqb-false, leb-true, eq-eqb, ne_eqb, le-leb}
 use Rattle.std.proofs.Math.Dec.{eqb, leb}
 use Rattle.std.proofs.Math.ListN.{length}
 use Rattle.std.proofs.Math.Seq.{sets}
+use Rattle.std.proofs.lemmas.List.{get_or-drop}
+use Rattle.std.proofs.lemmas.List.Sums.{sum_by_more}
 use Rattle.std.specs.Int.{w32}
 use Rattle.best.specs.BestLaws.{every_true, every_false}
 use Rattle.lists.specs.Fill.{tabulate}
@@ -20,8 +22,6 @@ use Rattle.pitch_settings.specs.Settings.{held_no}
 use Rattle.pitch_table.specs.declared.Row.{Row}
 use Rattle.pitch_table.specs.Row.{row_size, most_frames, numbers}
 use Rattle.sheet_bytes.specs.Bytes.{number_at, signed_at}
-use Rattle.sheet_rows.specs.declared.RowRead.{RowRead}
-use Rattle.sheet_rows.specs.declared.RowRead.TheVariants.{Held, Bad}
 use Rattle.sheet_rows.specs.Rows.{row_of}
 use Rattle.sheet_rows.specs.RowsLaws.{stands, stands_verdict}
 use Rattle.sheet_sections.specs.declared.Section.TheVariants.{Pairs, Correlations}
@@ -117,6 +117,18 @@ module _ (p : List ℕ) where
       let l : voiced_before p (i + 1) ≤ voiced_before p n = rw m at (grows (i + 1) d) in
       omega (arith, l, voiced_yes i e)
 
+  -- they number the verdicts that are 0, among the bytes that hold them
+  pub voiced_counted : (n : ℕ) → verdicts_at + n ≤ length p → count_by (λ v. v == 0) (take n (drop verdicts_at p)) ≡ voiced_before p n
+  unfolding voiced_before verdict_in
+  voiced_counted zero h = refl
+  voiced_counted (suc n) h =
+      let vs = drop verdicts_at p in
+      let l : n < length vs = omega (arith, length-drop verdicts_at p) in
+      let e : suc n ≡ n + 1 = omega arith in
+      ap (λ (m : ℕ). count_by (λ v. v == 0) (take m vs)) e
+      ∙ sum_by_more (λ v. cond (v == 0) 1 0) vs n 0 l
+      ∙ ap₂ (λ (m v : ℕ). m + cond (v == 0) 1 0) (voiced_counted n (omega arith)) (get_or-drop verdicts_at p n 0)
+
   pub voiced_in_le : voiced_in p ≤ frames_in p
   unfolding voiced_in
   voiced_in_le = voiced_le (frames_in p)
@@ -158,10 +170,10 @@ module _ (p : List ℕ) where
   unfolding row_in
   row_quiet i g = rw (ne_eqb (verdict_in p i) 0 g)
 
-  pub row_verdict : (i : ℕ) (r : Row) → row_in p i ≡ Held r → r.verdict ≡ pos (verdict_in p i)
+  pub row_verdict : (i : ℕ) (r : Row) → row_in p i ≡ Some r → r.verdict ≡ pos (verdict_in p i)
   row_verdict i r h = by (eqb (verdict_in p i) 0) refl
     where
-      from : (v index contour correlation : ℤ) → row_of (sheet_settings p) v index contour correlation ≡ Held r → r.verdict ≡ v
+      from : (v index contour correlation : ℤ) → row_of (sheet_settings p) v index contour correlation ≡ Some r → r.verdict ≡ v
       from v index contour correlation q = stands_verdict (sheet_settings p) v index contour correlation r (stands (sheet_settings p) v index contour correlation r q)
 
       by : (t : Bool) → eqb (verdict_in p i) 0 ≡ t → r.verdict ≡ pos (verdict_in p i)
@@ -171,7 +183,7 @@ module _ (p : List ℕ) where
       by false e = from (pos (verdict_in p i)) (pos 0) (pos 0) (pos 0) (sym (row_quiet i (eqb-false (verdict_in p i) 0 e)) ∙ h)
 
   -- the voiced verdicts counted so far, and the row that was read: one more where it is voiced
-  module _ (i : ℕ) (r : Row) (h : row_in p i ≡ Held r) where
+  module _ (i : ℕ) (r : Row) (h : row_in p i ≡ Some r) where
     bits : of_z w32 r.verdict ≡ verdict_in p i
     bits = ap (of_z w32) (row_verdict i r h)
 
@@ -185,24 +197,24 @@ module _ (p : List ℕ) where
   unfolding rows_good
   rows_yes h = every_true (frames_in p) (λ i. readable (row_in p i)) h
 
-  pub rows_no : (i : ℕ) → i < frames_in p → row_in p i ≡ Bad → rows_good p ≡ false
+  pub rows_no : (i : ℕ) → i < frames_in p → row_in p i ≡ None → rows_good p ≡ false
   unfolding rows_good readable
   rows_no i h e = every_false (frames_in p) (λ i. readable (row_in p i)) i h (ap readable e)
 
-  pub rows_means : rows_good p ≡ true → (i : ℕ) → i < frames_in p → row_in p i ≡ Held (row_found (row_in p i))
+  pub rows_means : rows_good p ≡ true → (i : ℕ) → i < frames_in p → row_in p i ≡ Some (row_found (row_in p i))
   unfolding row_found
   rows_means h i l = by (row_in p i) refl
     where
-      by : (q : RowRead) → row_in p i ≡ q → q ≡ Held (row_found q)
-      by (Held r) e = refl
-      by Bad e = absurd (false≢true (sym (rows_no i l e) ∙ h))
+      by : (q : Option Row) → row_in p i ≡ q → q ≡ Some (row_found q)
+      by (Some r) e = refl
+      by None e = absurd (false≢true (sym (rows_no i l e) ∙ h))
 
   -- ---- a sheet
 
   pub record Good : Type 0 where
     pub head : GoodHead
     pub sizes : GoodSizes
-    pub rows : (i : ℕ) → i < frames_in p → row_in p i ≡ Held (row_found (row_in p i))
+    pub rows : (i : ℕ) → i < frames_in p → row_in p i ≡ Some (row_found (row_in p i))
 
   pub good : well_formed p ≡ true → Good
   unfolding well_formed
@@ -214,11 +226,8 @@ module _ (p : List ℕ) where
         rows = rows_means (and_right (sizes_good p) (rows_good p) k);
       }
 
-  pub good_tests : well_formed p ≡ true → (head_good p ≡ true) × (sizes_good p ≡ true)
-  good_tests h = let g = good h in (head_yes g.head, sizes_yes g.sizes)
-
-  pub never_bad : well_formed p ≡ true → (i : ℕ) → i < frames_in p → row_in p i ≡ Bad → ⊥
-  never_bad h i l e = let r = (good h).rows i l in let z : ◌≡◌ {A = ℕ} 0 1 = cc in omega arith
+  pub never_bad : rows_good p ≡ true → (i : ℕ) → i < frames_in p → row_in p i ≡ None → ⊥
+  never_bad h i l e = false≢true (sym (rows_no i l e) ∙ h)
 
   -- ---- the rows, one by one
 
@@ -243,7 +252,7 @@ module _ (p : List ℕ) (t : List ℤ) where
   unfolding tabulate numbers_of
   put_none = refl
 
-  pub put_next : (i : ℕ) {l : List ℤ} {r : Row} → l ≡ sets t 0 (numbers_of (first_rows p i)) → row_in p i ≡ Held r → sets l (i * row_size) (numbers r) ≡ sets t 0 (numbers_of (first_rows p (i + 1)))
+  pub put_next : (i : ℕ) {l : List ℤ} {r : Row} → l ≡ sets t 0 (numbers_of (first_rows p i)) → row_in p i ≡ Some r → sets l (i * row_size) (numbers r) ≡ sets t 0 (numbers_of (first_rows p (i + 1)))
   unfolding tabulate numbers_of row_found
   put_next i {l} {r} e h =
       let q : r ≡ row_found (row_in p i) = sym (ap row_found h) in

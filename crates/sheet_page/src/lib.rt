@@ -1,28 +1,22 @@
 // What a page holds, read by place: whether it is a sheet, its settings, its frames and their rows.
 #![tactic(auto)]
 
-ghost use Rattle.std.specs.Prelude.{true, cond, ◌≡◌, ◌+◌, ◌*◌, ◌<◌, ◌≤◌, length};
+ghost use Rattle.std.specs.Prelude.{true, ◌&&◌, ◌≡◌, ◌+◌, ◌*◌, ◌<◌, ◌≤◌, length, ◌↔◌, IsSome, IfSome, IfOk};
+ghost use Rattle.refusals.specs.Refusals.{number_told};
 ghost use Rattle.std.proofs.lemmas.List.Edits.{sets};
-ghost use Rattle.sheet_page.specs.Page.{sheet_settings, frames_in, voiced_before, head_in, row_in, head_good, sizes_good, rows_good, well_formed, page_no, rows_in, numbers_of};
+ghost use Rattle.sheet_page.specs.Page.{sheet_settings, frames_in, voiced_before, voiced_in, row_in, head_good, sizes_good, rows_good, page_no, rows_in, numbers_of};
 ghost use Rattle.pitch_table.specs.Row.{row_size};
 ghost use Rattle.sheet_sections.specs.Sheet.{verdicts_at};
 
-use pitch_settings::{Settings, held_no};
-use pitch_table::{MOST_FRAMES, put_row};
+use pitch_settings::{Held, Settings};
+use pitch_table::{MOST_FRAMES, Row, put_row};
+use refusals::Refusal;
 use sheet_bytes::{i32_at, u16_at, u32_at};
-use sheet_rows::{RowRead, row_of};
+use sheet_rows::row_of;
 use sheet_sections::{
     COMPLEXITY_AT, CORRELATION_BYTES, CORRELATIONS_AT, FRAMES_AT, INDEX_BYTES, NB_AT, PAIR_BYTES,
     PAIRS_AT, RATE_AT, SETTINGS_COUNT, THRES1_AT, THRES2_AT, VERDICTS_AT, sheet_length,
 };
-
-// The settings of a sheet, how many frames it has, and how many of them are voiced.
-#[derive(Clone, Copy)]
-pub struct Head {
-    pub settings: Settings,
-    pub frames: usize,
-    pub voiced: usize,
-}
 
 // The settings of a page that has them.
 fn settings_at(page: &[u8]) -> Settings
@@ -38,21 +32,21 @@ fn settings_at(page: &[u8]) -> Settings
     }
 }
 
-// As many settings as a sheet has, which it can hold, and a frame count that a sheet may have.
-fn head_good(page: &[u8]) -> bool
-    ensures { result ≡ head_good page.now }
+// The settings of a page that begins as a sheet does: as many settings as a sheet has, which it can hold, and a frame count that a sheet may have.
+fn head(page: &[u8]) -> Option<Held>
+    ensures good { IsSome result ↔ (head_good page.now ≡ true) }
+    ensures settings { IfSome result (λ s. s.settings ≡ sheet_settings page.now) }
 {
     if page.len() < VERDICTS_AT {
-        return false;
+        return None;
     }
     if u32_at(page, 0) as usize != SETTINGS_COUNT {
-        return false;
+        return None;
     }
-    let s = settings_at(page);
-    if held_no(s) != 0 {
-        return false;
+    if u32_at(page, FRAMES_AT) as usize > MOST_FRAMES {
+        return None;
     }
-    u32_at(page, FRAMES_AT) as usize <= MOST_FRAMES
+    settings_at(page).held().ok()
 }
 
 // How many of the first verdicts are 0.
@@ -60,117 +54,127 @@ fn voiced_in(page: &[u8], frames: usize) -> usize
     requires { verdicts_at + frames ≤ length page.now }
     ensures { result ≡ voiced_before page.now frames }
 {
-    let mut voiced = 0;
-    for i in 0..frames {
-        if page[VERDICTS_AT + i] == 0 {
-            voiced += 1;
+    page[VERDICTS_AT..VERDICTS_AT + frames]
+        .iter()
+        .filter(|verdict| **verdict == 0)
+        .count()
+}
+
+// A page whose sections have the sizes of a sheet's, with what they say: `Sections::of` makes them. Some row may still be one that no sheet has.
+#[derive(Clone, Copy)]
+pub struct Sections<'a> {
+    page: &'a [u8],
+    pub settings: Held,
+    pub frames: usize,
+    // how many of the frames are voiced
+    voiced: usize,
+    ghost begins: { head_good page.now ≡ true },
+    ghost sized: { sizes_good page.now ≡ true },
+    ghost settings_read: { settings.settings ≡ sheet_settings page.now },
+    ghost frames_read: { frames ≡ frames_in page.now },
+    ghost voiced_read: { voiced ≡ voiced_in page.now },
+}
+
+impl Sections<'_> {
+    // The sections of the page, where no byte is missing and none follows, and the pairs and the correlations number the voiced verdicts.
+    fn of(page: &[u8]) -> Option<Sections>
+        ensures good { IsSome result ↔ ((head_good page.now && sizes_good page.now) ≡ true) }
+        ensures page { IfSome result (λ s. s.page.now ≡ page.now) }
+    {
+        let settings = head(page)?;
+        let frames = u32_at(page, FRAMES_AT) as usize;
+        if page.len() < VERDICTS_AT + frames {
+            return None;
+        }
+        let voiced = voiced_in(page, frames);
+        if page.len() != sheet_length(frames, voiced) {
+            return None;
+        }
+        if u32_at(page, VERDICTS_AT + frames) as usize != voiced {
+            return None;
+        }
+        if u32_at(page, PAIRS_AT + frames + PAIR_BYTES * voiced) as usize != voiced {
+            return None;
+        }
+        Some(Sections {
+            page,
+            settings,
+            frames,
+            voiced,
+        })
+    }
+
+    // Row i; `seen` rows before it are voiced.
+    fn row(self, i: usize, seen: usize) -> Option<Row>
+        requires { (i < self.frames) × (seen ≡ voiced_before self.page.now i) }
+        ensures { result ≡ row_in self.entry.page.now i }
+    {
+        let verdict = self.page[VERDICTS_AT + i] as i32;
+        if verdict != 0 {
+            return row_of(self.settings, verdict, 0, 0, 0);
+        }
+        let pair = PAIRS_AT + self.frames + PAIR_BYTES * seen;
+        let index = u16_at(self.page, pair) as i32;
+        let contour = self.page[pair + INDEX_BYTES] as i32;
+        let correlation = i32_at(
+            self.page,
+            CORRELATIONS_AT + self.frames + PAIR_BYTES * self.voiced + CORRELATION_BYTES * seen,
+        );
+        row_of(self.settings, 0, index, contour, correlation)
+    }
+
+    // Whether every row can be read.
+    fn rows_good(self) -> bool
+        ensures { result ≡ rows_good self.entry.page.now }
+    {
+        let mut seen = 0;
+        for i in 0..self.frames {
+            let Some(r) = self.row(i, seen) else {
+                return false;
+            };
+            if r.verdict == 0 {
+                seen += 1;
+            }
+        }
+        true
+    }
+}
+
+// A page that is a sheet: `SheetPage::of` makes them.
+#[derive(Clone, Copy)]
+pub struct SheetPage<'a> {
+    pub sections: Sections<'a>,
+    ghost readable: { rows_good sections.page.now ≡ true },
+}
+
+impl SheetPage<'_> {
+    // The page as a sheet, or refusal 9 where it is none.
+    pub fn of(page: &[u8]) -> Result<SheetPage, Refusal>
+        ensures number { number_told result ≡ page_no page.now }
+        ensures page { IfOk result (λ s. s.sections.page.now ≡ page.now) }
+    {
+        let sections = Sections::of(page).ok_or(Refusal::Malformed)?;
+        if sections.rows_good() {
+            Ok(SheetPage { sections })
+        } else {
+            Err(Refusal::Malformed)
         }
     }
-    voiced
-}
 
-// No byte is missing and none follows, and the pairs and the correlations number the voiced verdicts.
-fn sizes_good(page: &[u8]) -> bool
-    requires { head_good page.now ≡ true }
-    ensures { result ≡ sizes_good page.now }
-{
-    let frames = u32_at(page, FRAMES_AT) as usize;
-    if page.len() < VERDICTS_AT + frames {
-        return false;
-    }
-    let voiced = voiced_in(page, frames);
-    if page.len() != sheet_length(frames, voiced) {
-        return false;
-    }
-    if u32_at(page, VERDICTS_AT + frames) as usize != voiced {
-        return false;
-    }
-    u32_at(page, PAIRS_AT + frames + PAIR_BYTES * voiced) as usize == voiced
-}
-
-// The settings, the frames and the voiced frames of a page whose sections have these sizes.
-pub fn head_of(page: &[u8]) -> Head
-    requires { (head_good page.now ≡ true) × (sizes_good page.now ≡ true) }
-    ensures { result ≡ head_in page.now }
-{
-    let settings = settings_at(page);
-    let frames = u32_at(page, FRAMES_AT) as usize;
-    let voiced = voiced_in(page, frames);
-    Head {
-        settings,
-        frames,
-        voiced,
-    }
-}
-
-// Row i; `seen` rows before it are voiced.
-fn read_row(page: &[u8], h: Head, i: usize, seen: usize) -> RowRead
-    requires { (head_good page.now ≡ true) × (sizes_good page.now ≡ true) × (h ≡ head_in page.now) × (i < frames_in page.now) × (seen ≡ voiced_before page.now i) }
-    ensures { result ≡ row_in page.now i }
-{
-    let s = h.settings;
-    let frames = h.frames;
-    let voiced = h.voiced;
-    let verdict = page[VERDICTS_AT + i] as i32;
-    if verdict != 0 {
-        return row_of(s, verdict, 0, 0, 0);
-    }
-    let pair = PAIRS_AT + frames + PAIR_BYTES * seen;
-    let index = u16_at(page, pair) as i32;
-    let contour = page[pair + INDEX_BYTES] as i32;
-    let correlation = i32_at(
-        page,
-        CORRELATIONS_AT + frames + PAIR_BYTES * voiced + CORRELATION_BYTES * seen,
-    );
-    row_of(s, 0, index, contour, correlation)
-}
-
-// 9 where some row can't be read, else 0.
-fn rows_no(page: &[u8], h: Head) -> usize
-    requires { (head_good page.now ≡ true) × (sizes_good page.now ≡ true) × (h ≡ head_in page.now) }
-    ensures { result ≡ cond (rows_good page.now) 0 9 }
-{
-    let mut seen = 0;
-    let frames = h.frames;
-    for i in 0..frames {
-        let RowRead::Held(r) = read_row(page, h, i, seen) else {
-            return 9;
-        };
-        if r.verdict == 0 {
-            seen += 1;
-        }
-    }
-    0
-}
-
-// 9 where the page is no sheet, else 0.
-pub fn page_no(page: &[u8]) -> usize
-    ensures { result ≡ page_no page.now }
-{
-    if head_good(page) {
-        if sizes_good(page) {
-            let h = head_of(page);
-            return rows_no(page, h);
-        }
-        return 9;
-    }
-    9
-}
-
-// The rows of a sheet, written whole.
-pub fn put_rows(page: &[u8], h: Head, table: &mut [i32])
-    requires { (well_formed page.now ≡ true) × (h ≡ head_in page.now) × (frames_in page.now * row_size ≤ length table.old) }
-    ensures { table.new ≡ sets table.old 0 (numbers_of (rows_in page.now)) }
-{
-    let mut seen = 0;
-    let frames = h.frames;
-    for i in 0..frames {
-        let RowRead::Held(r) = read_row(page, h, i, seen) else {
-            return;
-        };
-        put_row(table, i, r);
-        if r.verdict == 0 {
-            seen += 1;
+    // The rows of the sheet, written whole.
+    pub fn put_rows(self, table: &mut [i32])
+        requires { self.sections.frames * row_size ≤ length table.old }
+        ensures { table.new ≡ sets table.old 0 (numbers_of (rows_in self.entry.sections.page.now)) }
+    {
+        let mut seen = 0;
+        for i in 0..self.sections.frames {
+            let Some(r) = self.sections.row(i, seen) else {
+                return;
+            };
+            put_row(table, i, r);
+            if r.verdict == 0 {
+                seen += 1;
+            }
         }
     }
 }

@@ -1,25 +1,23 @@
 -- Rows that a sheet can hold (docs/SCOPE.md, Track and Sheet). fs is the rate in kHz. Definitions only; the laws are in `RowsLaws`.
-use Rattle.std.specs.Prelude.{◌≡◌, Bool, false, ◌&&◌, ◌||◌, cond, List, [], ◌∷◌, ℕ, ◌≤◌, ℤ, pos, nat_abs}
+use Rattle.std.specs.Prelude.{◌≡◌, Bool, false, ◌&&◌, ◌||◌, cond, List, [], ◌∷◌, ℕ, ◌≤◌, ℤ, pos, nat_abs, Option, Some, None}
 use Rattle.zint.specs.Equal.{eq_z}
 use Rattle.silk_tables.specs.Rebuild.{carried}
 use Rattle.pitch_settings.specs.declared.Settings.{Settings}
 use Rattle.pitch_table.specs.declared.Row.{Row}
 use Rattle.pitch_table.specs.Row.{numbers, voiced_row, unpitched_row}
-use Rattle.sheet_rows.specs.declared.RowRead.{RowRead}
-use Rattle.sheet_rows.specs.declared.RowRead.TheVariants.{Held, Bad}
 
 -- the row that a verdict, a pair and a correlation stand for. Verdict 0 is voiced: the lag index is at most 127, 192, 256 at 8, 12, 16 kHz and the contour one in use, any
 -- correlation; 1 is unvoiced and 2 a zero divisor; there is no other
-unfoldable pub row_of : Settings → ℤ → ℤ → ℤ → ℤ → RowRead
+unfoldable pub row_of : Settings → ℤ → ℤ → ℤ → ℤ → Option Row
 row_of s verdict index contour correlation =
     cond (eq_z verdict (pos 0))
-    (cond (carried s.rate s.nb s.complexity index contour) (Held (voiced_row s index contour correlation)) Bad)
-    (cond (eq_z verdict (pos 1) || eq_z verdict (pos 2)) (Held (unpitched_row verdict)) Bad)
+    (cond (carried s.rate s.nb s.complexity index contour) (Some (voiced_row s index contour correlation)) None)
+    (cond (eq_z verdict (pos 1) || eq_z verdict (pos 2)) (Some (unpitched_row verdict)) None)
 
 -- the same answer in numbers: 0 and the row's eight numbers where they stand for a row, 9 (malformed) where they stand for none
-unfoldable pub row_read_numbers : RowRead → List ℤ
-row_read_numbers (Held r) = pos 0 ∷ numbers r
-row_read_numbers Bad = pos 9 ∷ []
+unfoldable pub row_read_numbers : Option Row → List ℤ
+row_read_numbers (Some r) = pos 0 ∷ numbers r
+row_read_numbers None = pos 9 ∷ []
 
 -- 0 where a verdict and a pair stand for a row, else 9
 unfoldable pub row_no : Settings → ℤ → ℤ → ℤ → ℕ
@@ -30,19 +28,15 @@ row_no s verdict index contour =
 unfoldable pub row_values : Settings → ℤ → ℤ → ℤ → ℤ → List ℤ
 row_values s verdict index contour correlation = numbers (cond (eq_z verdict (pos 0)) (voiced_row s index contour correlation) (unpitched_row verdict))
 
--- four numbers are the same as four others
-unfoldable pub same_numbers : ℤ → ℤ → ℤ → ℤ → ℤ → ℤ → ℤ → ℤ → Bool
-same_numbers a0 a1 a2 a3 b0 b1 b2 b3 = eq_z a0 b0 && (eq_z a1 b1 && (eq_z a2 b2 && eq_z a3 b3))
-
 -- two rows are the same number for number
 unfoldable pub same_row : Row → Row → Bool
 same_row a b =
-    same_numbers a.verdict a.index a.contour a.correlation b.verdict b.index b.contour b.correlation
-    && same_numbers a.lag0 a.lag1 a.lag2 a.lag3 b.lag0 b.lag1 b.lag2 b.lag3
+    eq_z a.verdict b.verdict && (eq_z a.index b.index && (eq_z a.contour b.contour && (eq_z a.correlation b.correlation
+    && (eq_z a.lag0 b.lag0 && (eq_z a.lag1 b.lag1 && (eq_z a.lag2 b.lag2 && eq_z a.lag3 b.lag3))))))
 
-abbrev pub same_as : Row → RowRead → Bool
-same_as r (Held q) = same_row r q
-same_as r Bad = false
+abbrev pub same_as : Row → Option Row → Bool
+same_as r (Some q) = same_row r q
+same_as r None = false
 
 -- a row is one that a sheet can hold where its own verdict, pair and correlation stand for it
 unfoldable pub row_holds : Settings → Row → Bool

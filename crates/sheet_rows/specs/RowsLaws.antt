@@ -1,9 +1,10 @@
 -- Laws of the rows that a sheet can hold: the definitions by their tests, and what is known of such a row.
 use Rattle.std.proofs.Math.Path.{◌≡◌, refl, sym, ap}
-use Rattle.std.proofs.Common.{◌∙◌, inl, inr, arith}
-use Rattle.std.specs.Prelude.{Bool, ◌&&◌, ◌||◌, cond, ◌⊎◌, ℕ, ◌≤◌, ℤ}
+use Rattle.std.proofs.Common.{◌∙◌, inl, inr, ⊎_elim, arith}
+use Rattle.std.specs.Prelude.{Bool, ◌||◌, cond, ◌⊎◌, ℕ, ◌≤◌, ℤ, ◌≤ℤ◌, Option, Some, None}
 use Rattle.std.proofs.Math.Bool.{true, false}
 use Rattle.std.proofs.lemmas.Bool.{false≢true}
+use Rattle.std.proofs.lemmas.Int.{ints}
 use Rattle.std.proofs.Math.IntN.{pos, nat_abs}
 use Rattle.answers.specs.Answer.{answer_numbers}
 use Rattle.zint.specs.BoundLaws.{abs_ud}
@@ -18,42 +19,45 @@ use Rattle.silk_tables.specs.CarriedLaws.{carried_means}
 use Rattle.pitch_settings.specs.declared.Settings.{Settings}
 use Rattle.pitch_table.specs.declared.Row.{Row}
 use Rattle.pitch_table.specs.Row.{numbers, voiced_row, unpitched_row}
-use Rattle.sheet_rows.specs.declared.RowRead.{RowRead}
-use Rattle.sheet_rows.specs.declared.RowRead.TheVariants.{Held, Bad}
-use Rattle.sheet_rows.specs.Rows.{FieldsFit, row_of, row_read_numbers, row_no, row_values, same_numbers, same_row, same_as, row_holds}
+use Rattle.sheet_rows.specs.Rows.{FieldsFit, row_of, row_read_numbers, row_no, row_values, same_row, same_as, row_holds}
 
 -- ---- the definitions by their tests
 
 module _ (s : Settings) (index contour correlation : ℤ) where
-  pub row_voiced : {verdict : ℤ} → verdict ≡ pos 0 → carried s.rate s.nb s.complexity index contour ≡ true → row_of s verdict index contour correlation ≡ Held (voiced_row s index contour correlation)
+  pub row_voiced : {verdict : ℤ} → verdict ≡ pos 0 → carried s.rate s.nb s.complexity index contour ≡ true → row_of s verdict index contour correlation ≡ Some (voiced_row s index contour correlation)
   unfolding row_of
   row_voiced e h = rw (eq_z_yes e, h)
 
-  pub row_not_carried : {verdict : ℤ} → verdict ≡ pos 0 → carried s.rate s.nb s.complexity index contour ≡ false → row_of s verdict index contour correlation ≡ Bad
+  pub row_not_carried : {verdict : ℤ} → verdict ≡ pos 0 → carried s.rate s.nb s.complexity index contour ≡ false → row_of s verdict index contour correlation ≡ None
   unfolding row_of
   row_not_carried e h = rw (eq_z_yes e, h)
 
-  pub row_unvoiced : {verdict : ℤ} → verdict ≡ pos 1 → row_of s verdict index contour correlation ≡ Held (unpitched_row verdict)
+  pub row_unvoiced : {verdict : ℤ} → verdict ≡ pos 1 → row_of s verdict index contour correlation ≡ Some (unpitched_row verdict)
   unfolding row_of eq_z
   row_unvoiced e = rw e
 
-  pub row_zero_divisor : {verdict : ℤ} → verdict ≡ pos 2 → row_of s verdict index contour correlation ≡ Held (unpitched_row verdict)
+  pub row_zero_divisor : {verdict : ℤ} → verdict ≡ pos 2 → row_of s verdict index contour correlation ≡ Some (unpitched_row verdict)
   unfolding row_of eq_z
   row_zero_divisor e = rw e
 
-  pub row_none : {verdict : ℤ} → (verdict ≡ pos 0 → ⊥) → (verdict ≡ pos 1 → ⊥) → (verdict ≡ pos 2 → ⊥) → row_of s verdict index contour correlation ≡ Bad
+  -- a verdict that is 1 or 2, or neither and not 0, told by its order
+  pub row_unpitched : {verdict : ℤ} → pos 1 ≤ℤ verdict → verdict ≤ℤ pos 2 → row_of s verdict index contour correlation ≡ Some (unpitched_row verdict)
+  row_unpitched {verdict} h k =
+      ⊎_elim row_unvoiced row_zero_divisor (grind (arith, ints))
+
+  pub row_none : {verdict : ℤ} → (verdict ≡ pos 0 → ⊥) → (verdict ≡ pos 1 → ⊥) → (verdict ≡ pos 2 → ⊥) → row_of s verdict index contour correlation ≡ None
   unfolding row_of
   row_none f g h = rw (eq_z_no f, eq_z_no g, eq_z_no h)
 
 -- ---- the answer in numbers
 
-module _ (s : Settings) (verdict index contour correlation : ℤ) {r : RowRead} where
+module _ (s : Settings) (verdict index contour correlation : ℤ) {r : Option Row} where
   pub row_answer : r ≡ row_of s verdict index contour correlation → (r ≡ row_of s verdict index contour correlation) × (row_read_numbers r ≡ answer_numbers (row_no s verdict index contour) (row_values s verdict index contour correlation))
   unfolding row_of row_read_numbers row_no row_values
   row_answer e = (e, ap row_read_numbers e ∙ by (eq_z verdict (pos 0)) (carried s.rate s.nb s.complexity index contour) (eq_z verdict (pos 1) || eq_z verdict (pos 2)))
     where
       by : (a b c : Bool)
-          → row_read_numbers (cond a (cond b (Held (voiced_row s index contour correlation)) Bad) (cond c (Held (unpitched_row verdict)) Bad))
+          → row_read_numbers (cond a (cond b (Some (voiced_row s index contour correlation)) None) (cond c (Some (unpitched_row verdict)) None))
           ≡ answer_numbers (cond a (cond b 0 9) (cond c 0 9)) (numbers (cond a (voiced_row s index contour correlation) (unpitched_row verdict)))
       by true true c = refl
       by true false c = refl
@@ -62,37 +66,28 @@ module _ (s : Settings) (verdict index contour correlation : ℤ) {r : RowRead} 
 
 -- ---- rows that are the same
 
-numbers_same : (a0 a1 a2 a3 b0 b1 b2 b3 : ℤ) → same_numbers a0 a1 a2 a3 b0 b1 b2 b3 ≡ true → (a0 ≡ b0) × (a1 ≡ b1) × (a2 ≡ b2) × (a3 ≡ b3)
-unfolding same_numbers
-numbers_same a0 a1 a2 a3 b0 b1 b2 b3 h =
-    let p = and_right (eq_z a0 b0) (eq_z a1 b1 && (eq_z a2 b2 && eq_z a3 b3)) h in
-    let q = and_right (eq_z a1 b1) (eq_z a2 b2 && eq_z a3 b3) p in (
-      eq_z_true a0 b0 (and_left (eq_z a0 b0) (eq_z a1 b1 && (eq_z a2 b2 && eq_z a3 b3)) h),
-      eq_z_true a1 b1 (and_left (eq_z a1 b1) (eq_z a2 b2 && eq_z a3 b3) p),
-      eq_z_true a2 b2 (and_left (eq_z a2 b2) (eq_z a3 b3) q),
-      eq_z_true a3 b3 (and_right (eq_z a2 b2) (eq_z a3 b3) q),
-    )
-
 pub same_row_true : (a b : Row) → same_row a b ≡ true → a ≡ b
 unfolding same_row
 same_row_true a b h =
-    let first = same_numbers a.verdict a.index a.contour a.correlation b.verdict b.index b.contour b.correlation in
-    let lags = same_numbers a.lag0 a.lag1 a.lag2 a.lag3 b.lag0 b.lag1 b.lag2 b.lag3 in
-    let p = numbers_same a.verdict a.index a.contour a.correlation b.verdict b.index b.contour b.correlation (and_left first lags h) in
-    let q = numbers_same a.lag0 a.lag1 a.lag2 a.lag3 b.lag0 b.lag1 b.lag2 b.lag3 (and_right first lags h) in
+    let h1 = and_right (eq_z a.verdict b.verdict) _ h in
+    let h2 = and_right (eq_z a.index b.index) _ h1 in
+    let h3 = and_right (eq_z a.contour b.contour) _ h2 in
+    let h4 = and_right (eq_z a.correlation b.correlation) _ h3 in
+    let h5 = and_right (eq_z a.lag0 b.lag0) _ h4 in
+    let h6 = and_right (eq_z a.lag1 b.lag1) _ h5 in
     λ i. record {
-      verdict = p.0 i;
-      index = p.1 i;
-      contour = p.2 i;
-      correlation = p.3 i;
-      lag0 = q.0 i;
-      lag1 = q.1 i;
-      lag2 = q.2 i;
-      lag3 = q.3 i;
+      verdict = eq_z_true a.verdict b.verdict (and_left _ _ h) i;
+      index = eq_z_true a.index b.index (and_left _ _ h1) i;
+      contour = eq_z_true a.contour b.contour (and_left _ _ h2) i;
+      correlation = eq_z_true a.correlation b.correlation (and_left _ _ h3) i;
+      lag0 = eq_z_true a.lag0 b.lag0 (and_left _ _ h4) i;
+      lag1 = eq_z_true a.lag1 b.lag1 (and_left _ _ h5) i;
+      lag2 = eq_z_true a.lag2 b.lag2 (and_left _ _ h6) i;
+      lag3 = eq_z_true a.lag3 b.lag3 (and_right (eq_z a.lag2 b.lag2) _ h6) i;
     }
 
 pub same_row_self : (a : Row) → same_row a a ≡ true
-unfolding same_row same_numbers
+unfolding same_row
 same_row_self a =
     rw (
       eq_z_yes {z = a.verdict} refl,
@@ -112,18 +107,18 @@ pub data Stands (s : Settings) (verdict index contour correlation : ℤ) (r : Ro
   unpitched : (verdict ≡ pos 1) ⊎ (verdict ≡ pos 2) → r ≡ unpitched_row verdict → Stands s verdict index contour correlation r
 
 module _ (s : Settings) (verdict index contour correlation : ℤ) (r : Row) where
-  pub stands : row_of s verdict index contour correlation ≡ Held r → Stands s verdict index contour correlation r
+  pub stands : row_of s verdict index contour correlation ≡ Some r → Stands s verdict index contour correlation r
   unfolding row_of
   stands h = by (eq_z verdict (pos 0)) (carried s.rate s.nb s.complexity index contour) (eq_z verdict (pos 1)) (eq_z verdict (pos 2)) refl refl refl refl h
     where
-      same : {q : Row} → Held q ≡ Held r → r ≡ q
+      same : {q : Row} → Some q ≡ Some r → r ≡ q
       same e = cc
 
-      none : {A : Type 0} → Bad ≡ Held r → A
+      none : {A : Type 0} → None ≡ Some r → A
       none e = let z : ◌≡◌ {A = ℕ} 0 1 = cc in absurd (omega arith)
 
       by : (a b c d : Bool) → eq_z verdict (pos 0) ≡ a → carried s.rate s.nb s.complexity index contour ≡ b → eq_z verdict (pos 1) ≡ c → eq_z verdict (pos 2) ≡ d
-          → cond a (cond b (Held (voiced_row s index contour correlation)) Bad) (cond (c || d) (Held (unpitched_row verdict)) Bad) ≡ Held r
+          → cond a (cond b (Some (voiced_row s index contour correlation)) None) (cond (c || d) (Some (unpitched_row verdict)) None) ≡ Some r
           → Stands s verdict index contour correlation r
       by true true c d p q u v e = voiced (eq_z_true verdict (pos 0) p) q (same e)
       by true false c d p q u v e = none e
@@ -144,7 +139,7 @@ module _ (s : Settings) (verdict index contour correlation : ℤ) (r : Row) wher
   stands_pair (unpitched (inr e) q) z = let c : ◌≡◌ {A = ℕ} 0 2 = ap nat_abs (sym z ∙ e) in absurd (omega arith)
 
   -- and those stand for it again
-  pub stands_again : Stands s verdict index contour correlation r → row_of s r.verdict r.index r.contour r.correlation ≡ Held r
+  pub stands_again : Stands s verdict index contour correlation r → row_of s r.verdict r.index r.contour r.correlation ≡ Some r
   unfolding voiced_row unpitched_row
   stands_again (voiced e h q) = rw q (row_voiced s index contour correlation refl h)
   stands_again (unpitched (inl e) q) = rw q (row_unvoiced s (pos 0) (pos 0) (pos 0) e)
@@ -153,15 +148,15 @@ module _ (s : Settings) (verdict index contour correlation : ℤ) (r : Row) wher
 -- ---- a row that a sheet can hold
 
 module _ (s : Settings) (r : Row) where
-  pub holds_means : row_holds s r ≡ true → row_of s r.verdict r.index r.contour r.correlation ≡ Held r
+  pub holds_means : row_holds s r ≡ true → row_of s r.verdict r.index r.contour r.correlation ≡ Some r
   unfolding row_holds
   holds_means h = by (row_of s r.verdict r.index r.contour r.correlation) refl h
     where
-      by : (q : RowRead) → row_of s r.verdict r.index r.contour r.correlation ≡ q → same_as r q ≡ true → row_of s r.verdict r.index r.contour r.correlation ≡ Held r
-      by (Held q) e k = e ∙ ap Held (sym (same_row_true r q k))
-      by Bad e k = absurd (false≢true k)
+      by : (q : Option Row) → row_of s r.verdict r.index r.contour r.correlation ≡ q → same_as r q ≡ true → row_of s r.verdict r.index r.contour r.correlation ≡ Some r
+      by (Some q) e k = e ∙ ap Some (sym (same_row_true r q k))
+      by None e k = absurd (false≢true k)
 
-  pub holds_yes : row_of s r.verdict r.index r.contour r.correlation ≡ Held r → row_holds s r ≡ true
+  pub holds_yes : row_of s r.verdict r.index r.contour r.correlation ≡ Some r → row_holds s r ≡ true
   unfolding row_holds
   holds_yes e = rw e (same_row_self r)
 

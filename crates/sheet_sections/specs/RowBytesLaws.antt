@@ -55,20 +55,20 @@ module _ (r : Row) (p : List ℕ) (at : ℕ) where
   put_entry : (k : Section) {end : ℕ} {q : List ℕ} → has_entry k r ≡ true → Put p at (entry k r) end q → Put p at (row_bytes k r) end q
   put_entry k e h = rw (bytes_entry k r e) h
 
-  pub put_verdict : {x : ℕ} → x ≡ nat_abs r.verdict → Put p at (row_bytes Verdicts r) (at + entry_bytes Verdicts) (set p at x)
+  pub put_verdict : {x : ℕ} → has_entry Verdicts r ≡ true → x ≡ nat_abs r.verdict → Put p at (row_bytes Verdicts r) (at + entry_bytes Verdicts) (set p at x)
   unfolding entry
-  put_verdict e = put_entry Verdicts (has_verdict r) (record { ends = refl; holds = ap (set p at) e })
+  put_verdict v e = put_entry Verdicts v (record { ends = refl; holds = ap (set p at) e })
 
-  pub put_pair : {n x : ℕ} {q : List ℕ} → r.verdict ≡ pos 0 → q ≡ sets p at (low_bytes index_bytes n) → n ≡ nat_abs r.index → x ≡ nat_abs r.contour → Put p at (row_bytes Pairs r) (at + entry_bytes Pairs) (set q (at + index_bytes) x)
+  pub put_pair : {n x : ℕ} {q : List ℕ} → has_entry Pairs r ≡ true → q ≡ sets p at (low_bytes index_bytes n) → n ≡ nat_abs r.index → x ≡ nat_abs r.contour → Put p at (row_bytes Pairs r) (at + entry_bytes Pairs) (set q (at + index_bytes) x)
   unfolding entry
   put_pair {n} {x} {q} v eq en ex =
       let a : Put p at (low_bytes index_bytes (nat_abs r.index)) (at + index_bytes) q =
       record { ends = ap (λ (m : ℕ). at + m) (sym (length_bytes index_bytes (nat_abs r.index))); holds = eq ∙ ap (λ (m : ℕ). sets p at (low_bytes index_bytes m)) en } in
       let b : Put q (at + index_bytes) (nat_abs r.contour ∷ []) (at + entry_bytes Pairs) (set q (at + index_bytes) x) = record { ends = omega arith; holds = ap (set q (at + index_bytes)) ex } in
-      put_entry Pairs (has_pair r v) (put_then a b)
+      put_entry Pairs v (put_then a b)
 
-  pub put_correlation : {z : ℤ} {q : List ℕ} → r.verdict ≡ pos 0 → q ≡ sets p at (signed z) → z ≡ r.correlation → Put p at (row_bytes Correlations r) (at + entry_bytes Correlations) q
+  pub put_correlation : {z : ℤ} {q : List ℕ} → has_entry Correlations r ≡ true → q ≡ sets p at (signed z) → z ≡ r.correlation → Put p at (row_bytes Correlations r) (at + entry_bytes Correlations) q
   unfolding entry
   put_correlation v eq ez =
-      put_entry Correlations (has_correlation r v)
+      put_entry Correlations v
       (record { ends = ap (λ (m : ℕ). at + m) (sym (length_signed r.correlation)); holds = eq ∙ ap (λ (y : ℤ). sets p at (signed y)) ez })

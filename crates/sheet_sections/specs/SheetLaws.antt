@@ -1,10 +1,14 @@
 -- Laws of a sheet's bytes: sections grow row by row, lengths, and writing one run of bytes after another.
-use Rattle.std.specs.Prelude.{◌≡◌, refl, Bool, true, false, cond, List, [], ◌∷◌, ◌++◌, map, ℕ, zero, suc, ◌+◌, ◌-◌, ◌*◌, ◌≤◌, ◌<◌, ℤ, pos, nat_abs, get_or, take}
-use Rattle.std.proofs.Common.{sym, ◌∙◌, append_assoc, append-nil, add-one, arith, length-append}
+use Rattle.std.specs.Prelude.{◌≡◌, refl, Bool, true, false, cond, List, [], ◌∷◌, ◌++◌, map, ℕ, zero, suc, ◌+◌, ◌-◌, ◌*◌, ◌≤◌, ◌<◌, ℤ, pos, nat_abs, get_or, take, count_by}
+use Rattle.std.proofs.Common.{ap₂, sym, ◌∙◌, append_assoc, append-nil, add-one, arith, length-append}
 use Rattle.std.proofs.Math.Path.{ap}
 use Rattle.std.proofs.Math.Nat.{add-zero}
 use Rattle.std.proofs.Math.ListN.{length}
 use Rattle.std.proofs.lemmas.List.Edits.{sets}
+use Rattle.std.proofs.lemmas.List.Sums.{sum_by_more, length-filter}
+use Rattle.std.proofs.lemmas.List.FromFn.{length-range_with_len, get_or-range_with_len}
+use Rattle.std.proofs.Math.Seq.{take-length}
+use Rattle.std.specs.List.{range_with_len, filter}
 use Rattle.zint.specs.Equal.{eq_z}
 use Rattle.lists.specs.Fill.{tabulate}
 use Rattle.lists.specs.FillLaws.{length_tabulate}
@@ -156,6 +160,33 @@ module _ (k : Section) (t : List ℤ) (n : ℕ) where
   count_none e =
       let none : length (cond (has_entry k (row_at t n)) (entry k (row_at t n) ∷ []) []) ≡ 0 = rw e in
       counts ∙ ap (λ (m : ℕ). length (section_entries k (rows_of t n)) + m) none ∙ add-zero (length (section_entries k (rows_of t n)))
+
+-- the voiced rows, picked out of all by their number
+module _ (t : List ℤ) (n : ℕ) where
+  more : (i : ℕ) (b : Bool) → has_entry Pairs (row_at t i) ≡ b → length (section_entries Pairs (rows_of t i)) + cond b 1 0 ≡ length (section_entries Pairs (rows_of t (i + 1)))
+  more i true e = sym (count_entry Pairs t i e)
+  more i false e = add-zero (length (section_entries Pairs (rows_of t i))) ∙ sym (count_none Pairs t i e)
+
+  so_far : (i : ℕ) → i ≤ n → count_by (λ k. has_entry Pairs (row_at t k)) (take i (range_with_len 0 n)) ≡ length (section_entries Pairs (rows_of t i))
+  unfolding rows_of tabulate section_entries
+  so_far zero h = refl
+  so_far (suc i) h =
+      let voiced : ℕ → Bool = λ k. has_entry Pairs (row_at t k) in
+      let e : suc i ≡ i + 1 = omega arith in
+      let z : 0 + i ≡ i = omega arith in
+      ap (λ (m : ℕ). count_by voiced (take m (range_with_len 0 n))) e
+      ∙ sum_by_more (λ k. cond (voiced k) 1 0) (range_with_len 0 n) i 0 (omega (arith, length-range_with_len 0 n))
+      ∙ ap₂ (λ (m k : ℕ). m + cond (voiced k) 1 0) (so_far i (omega arith)) (get_or-range_with_len 0 n i 0 h ∙ z)
+      ∙ more i (voiced i) refl
+      ∙ ap (λ (m : ℕ). length (section_entries Pairs (rows_of t m))) (sym e)
+
+  pub voiced_picked : length (filter (λ k. has_entry Pairs (row_at t k)) (range_with_len 0 n)) ≡ length (section_entries Pairs (rows_of t n))
+  voiced_picked =
+      let voiced : ℕ → Bool = λ k. has_entry Pairs (row_at t k) in
+      let xs = range_with_len 0 n in
+      length-filter voiced xs
+      ∙ sym (ap (λ (l : List ℕ). count_by voiced l) (ap (λ (m : ℕ). take m xs) (sym (length-range_with_len 0 n)) ∙ take-length xs))
+      ∙ so_far n (omega arith)
 
 -- ---- a count and a row of signed numbers that were written
 

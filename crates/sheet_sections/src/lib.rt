@@ -2,14 +2,14 @@
 #![tactic(auto)]
 
 ghost use Rattle.std.specs.Prelude.{map, true, ◌≡◌, ℕ, ◌+◌, ◌*◌, ◌<◌, ◌≤◌, length};
-ghost use Rattle.pitch_settings.specs.Settings.{held_no};
 ghost use Rattle.pitch_table.specs.Row.{row_size, most_frames, row_at};
 ghost use Rattle.sheet_bytes.specs.Bytes.{signed};
 ghost use Rattle.sheet_rows.specs.Rows.{FieldsFit, row_holds};
 ghost use Rattle.lists.specs.Put.{Put};
-ghost use Rattle.sheet_sections.specs.Sheet.{setting_bytes, frames_at, sheet_length, setting_numbers, row_bytes, section_entries, section, setting_entries, concat, rows_of, sheet};
+ghost use Rattle.sheet_sections.specs.declared.Section.TheVariants.{Pairs};
+ghost use Rattle.sheet_sections.specs.Sheet.{setting_bytes, frames_at, sheet_length, setting_numbers, has_entry, row_bytes, section_entries, section, setting_entries, concat, rows_of, sheet};
 
-use pitch_settings::Settings;
+use pitch_settings::Held;
 use pitch_table::{MOST_FRAMES, Row, get_row};
 use sheet_bytes::{put_i32, put_u16, put_u32};
 
@@ -70,7 +70,7 @@ pub const VOICED_FRAME_BYTES: usize = VERDICT_BYTES + PAIR_BYTES + CORRELATION_B
 // The bytes of the longest sheet: a page of that length is never too short.
 pub const LONGEST_SHEET: usize = SHORTEST_SHEET + MOST_FRAMES * VOICED_FRAME_BYTES;
 
-// The sections after the settings, in their order on the page.
+// The sections after the settings, in their order on the page. An enum, since the definitions of a sheet go by the section; a trait with a type for each section says the same three cases and is no plainer.
 #[derive(Clone, Copy)]
 pub enum Section {
     Verdicts,
@@ -78,19 +78,26 @@ pub enum Section {
     Correlations,
 }
 
+impl Section {
+    // Whether the row has an entry in the section: each has a verdict, a voiced one a pair and a correlation.
+    fn has_entry(self, r: Row) -> bool
+        ensures { result ≡ has_entry self r }
+    {
+        match self {
+            Section::Verdicts => true,
+            Section::Pairs | Section::Correlations => r.verdict == 0,
+        }
+    }
+}
+
 // How many of the first rows are voiced.
 pub fn voiced_rows(table: &[i32], frames: usize) -> usize
     requires { frames * row_size ≤ length table.now }
-    ensures { result ≡ length (section_entries Section.Pairs (rows_of table.now frames)) }
+    ensures { result ≡ length (section_entries Pairs (rows_of table.now frames)) }
 {
-    let mut voiced = 0;
-    for i in 0..frames {
-        let r = get_row(table, i);
-        if r.verdict == 0 {
-            voiced += 1;
-        }
-    }
-    voiced
+    (0..frames)
+        .filter(|i| Section::Pairs.has_entry(get_row(table, *i)))
+        .count()
 }
 
 // The bytes of a sheet of that many frames, so many of them voiced.
@@ -102,18 +109,16 @@ pub fn sheet_length(frames: usize, voiced: usize) -> usize
 }
 
 // The settings as numbers, in their order on the page.
-pub fn setting_numbers(s: Settings) -> [i32; SETTINGS_COUNT]
-    requires { held_no s ≡ 0 }
-    ensures { result ≡ setting_numbers s }
+pub fn setting_numbers(settings: Held) -> [i32; SETTINGS_COUNT]
+    ensures { result ≡ setting_numbers settings.settings }
 {
-    let thres1 = s.thres1;
-    let thres2 = s.thres2;
+    let s = settings.settings;
     [
         s.rate as i32,
         s.nb as i32,
         s.complexity as i32,
-        thres1,
-        thres2,
+        s.thres1,
+        s.thres2,
     ]
 }
 
@@ -123,21 +128,20 @@ fn put_numbers(page: &mut [u8], at: usize, numbers: &[i32]) -> usize
     ensures { Put page.old at (concat (map signed numbers.now)) result page.new }
 {
     let mut end = at;
-    for i in 0..numbers.len() {
-        put_i32(page, end, numbers[i]);
+    for number in numbers {
+        put_i32(page, end, *number);
         end += SETTING_BYTES;
     }
     end
 }
 
 // The settings' section at the front of the page; the place after it.
-fn put_settings(page: &mut [u8], s: Settings) -> usize
-    requires { (held_no s ≡ 0) × (frames_at ≤ length page.old) }
-    ensures { Put page.old 0 (section (setting_entries s)) result page.new }
+fn put_settings(page: &mut [u8], settings: Held) -> usize
+    requires { frames_at ≤ length page.old }
+    ensures { Put page.old 0 (section (setting_entries settings.settings)) result page.new }
 {
     put_u32(page, 0, SETTINGS_COUNT as u32);
-    let numbers = setting_numbers(s);
-    put_numbers(page, COUNT_BYTES, &numbers)
+    put_numbers(page, COUNT_BYTES, &setting_numbers(settings))
 }
 
 // The row's bytes in a section, from `at` on; the place after them.
@@ -145,64 +149,80 @@ fn put_row_bytes(page: &mut [u8], at: usize, which: Section, r: Row) -> usize
     requires { FieldsFit r × (at + length (row_bytes which r) ≤ length page.old) }
     ensures { Put page.old at (row_bytes which r) result page.new }
 {
-    let verdict = r.verdict;
+    if !which.has_entry(r) {
+        return at;
+    }
     match which {
         Section::Verdicts => {
-            page[at] = verdict as u8;
+            page[at] = r.verdict as u8;
             at + VERDICT_BYTES
         }
         Section::Pairs => {
-            if verdict != 0 {
-                return at;
-            }
             put_u16(page, at, r.index as u16);
             page[at + INDEX_BYTES] = r.contour as u8;
             at + PAIR_BYTES
         }
         Section::Correlations => {
-            if verdict != 0 {
-                return at;
-            }
             put_i32(page, at, r.correlation);
             at + CORRELATION_BYTES
         }
     }
 }
 
-// A section of the first rows, from `at` on: the count of its entries, then the entries; the place after it.
-fn put_section(
-    page: &mut [u8],
-    at: usize,
-    which: Section,
-    count: usize,
-    table: &[i32],
-    frames: usize,
-) -> usize
-    requires { (frames * row_size ≤ length table.now) × (frames ≤ most_frames)
-        × ((i : ℕ) → i < frames → FieldsFit (row_at table.now i))
-        × (count ≡ length (section_entries which (rows_of table.now frames)))
-        × (at + length (section (section_entries which (rows_of table.now frames))) ≤ length page.old) }
-    ensures { Put page.old at (section (section_entries which (rows_of table.now frames))) result page.new }
-{
-    put_u32(page, at, count as u32);
-    let mut end = at + COUNT_BYTES;
-    for i in 0..frames {
-        let r = get_row(table, i);
-        end = put_row_bytes(page, end, which, r);
-    }
-    end
+// What a sheet is made of, so that it can be written without another test: settings and rows that a sheet can hold, no more than it may have, and how many of them are voiced.
+#[derive(Clone, Copy)]
+pub struct Sheet<'a> {
+    pub settings: Held,
+    // the rows are the table's first, as many as there are frames
+    pub table: &'a [i32],
+    pub frames: usize,
+    pub voiced: usize,
+    pub ghost whole: { frames * row_size ≤ length table.now },
+    pub ghost few: { frames ≤ most_frames },
+    pub ghost rows: { (i : ℕ) → i < frames → row_holds settings.settings (row_at table.now i) ≡ true },
+    pub ghost counted: { voiced ≡ length (section_entries Pairs (rows_of table.now frames)) },
 }
 
-// A whole sheet at the front of the page.
-pub fn put_sheet(page: &mut [u8], s: Settings, table: &[i32], frames: usize, voiced: usize) -> usize
-    requires { (held_no s ≡ 0) × (frames * row_size ≤ length table.now) × (frames ≤ most_frames)
-        × ((i : ℕ) → i < frames → row_holds s (row_at table.now i) ≡ true)
-        × (voiced ≡ length (section_entries Section.Pairs (rows_of table.now frames)))
-        × (length (sheet s (rows_of table.now frames)) ≤ length page.old) }
-    ensures { Put page.old 0 (sheet s (rows_of table.now frames)) result page.new }
-{
-    let at = put_settings(page, s);
-    let at = put_section(page, at, Section::Verdicts, frames, table, frames);
-    let at = put_section(page, at, Section::Pairs, voiced, table, frames);
-    put_section(page, at, Section::Correlations, voiced, table, frames)
+impl Sheet<'_> {
+    // The bytes of the sheet.
+    pub fn length(self) -> usize
+        ensures { result ≡ length (sheet self.entry.settings.settings (rows_of self.entry.table.now self.entry.frames)) }
+    {
+        sheet_length(self.frames, self.voiced)
+    }
+
+    // How many of the rows have an entry in the section.
+    fn entries(self, which: Section) -> usize
+        ensures { result ≡ length (section_entries which (rows_of self.entry.table.now self.entry.frames)) }
+    {
+        match which {
+            Section::Verdicts => self.frames,
+            Section::Pairs => self.voiced,
+            Section::Correlations => self.voiced,
+        }
+    }
+
+    // A section of the rows, from `at` on: the count of its entries, then the entries; the place after it.
+    fn put_section(self, page: &mut [u8], at: usize, which: Section) -> usize
+        requires { at + length (section (section_entries which (rows_of self.table.now self.frames))) ≤ length page.old }
+        ensures { Put page.old at (section (section_entries which (rows_of self.entry.table.now self.entry.frames))) result page.new }
+    {
+        put_u32(page, at, self.entries(which) as u32);
+        let mut end = at + COUNT_BYTES;
+        for i in 0..self.frames {
+            end = put_row_bytes(page, end, which, get_row(self.table, i));
+        }
+        end
+    }
+
+    // The whole sheet at the front of the page; the place after it.
+    pub fn put(self, page: &mut [u8]) -> usize
+        requires { length (sheet self.settings.settings (rows_of self.table.now self.frames)) ≤ length page.old }
+        ensures { Put page.old 0 (sheet self.entry.settings.settings (rows_of self.entry.table.now self.entry.frames)) result page.new }
+    {
+        let at = put_settings(page, self.settings);
+        let at = self.put_section(page, at, Section::Verdicts);
+        let at = self.put_section(page, at, Section::Pairs);
+        self.put_section(page, at, Section::Correlations)
+    }
 }

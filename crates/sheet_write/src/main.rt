@@ -5,7 +5,7 @@ use recording_head::Head;
 use track_sheet_writer::write_track_sheet;
 
 fn main(rt: HostRuntime) {
-    write_track_sheet(
+    let _ = write_track_sheet(
         &mut rt.stdin(),
         &mut rt.stdout(),
         &mut rt.stderr(),

@@ -59,10 +59,3 @@ pub fn sheet_write_bytes(
         Recording::Taken(k, n) => put_track(k, &samples[..n], table, out),
     }
 }
-
-// Room for the longest sheet. The `ensures` gives only the length, so that nothing unfolds the zeros.
-pub fn sheet_room() -> [u8; LONGEST_PROGRAM_SHEET]
-    ensures { longest_program_sheet ≡ length result }
-{
-    [0; LONGEST_PROGRAM_SHEET]
-}

@@ -10,15 +10,10 @@ use Rattle.pitch_table.specs.Row.{numbers, pair_lag, voiced_row, unpitched_row}
 use Rattle.frame_signals.specs.Scale.{scaled}
 use Rattle.silk_resampler.specs.Down23.{source_filter}
 use Rattle.frame_signals.specs.Signals.{down_to_8khz, down_to_4khz}
-use Rattle.stage1.specs.Stage1.{stage1, kept_lags}
-use Rattle.stage1.specs.declared.Screen.{Screen}
-use Rattle.stage1.specs.declared.Screen.TheVariants.{ZeroDivisor as Zero1, Unvoiced as Unvoiced1, Goes}
-use Rattle.stage2.specs.Stage2.{stage2}
-use Rattle.stage2.specs.declared.Stage2.{Stage2}
-use Rattle.stage2.specs.declared.Stage2.TheVariants.{ZeroDivisor as Zero2, Unvoiced as Unvoiced2, Winner}
+use Rattle.stage1.specs.Stage1.{stage1, kept_lags, Screen, ZeroDivisor as Zero1, Unvoiced as Unvoiced1, Goes}
+use Rattle.stage2.specs.Stage2.{stage2, Stage2, ZeroDivisor as Zero2, Unvoiced as Unvoiced2, Winner}
 use Rattle.stage3.specs.Stage3.{stage3}
-use Rattle.stage3.specs.declared.Found.{Found}
-use Rattle.stage3.specs.declared.Found.TheVariants.{Pair, ZeroDivisor as Zero3}
+use Rattle.stage3.specs.Pick.{Found, Pair, ZeroDivisor as Zero3}
 use Rattle.silk_pitch_analysis.specs.declared.Verdict.{Verdict}
 use Rattle.silk_pitch_analysis.specs.declared.Verdict.TheVariants.{Voiced, Unvoiced, ZeroDivisor}
 

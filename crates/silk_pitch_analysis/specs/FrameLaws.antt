@@ -25,7 +25,7 @@ use Rattle.frame_signals.specs.SignalLaws.{length_eight, length_four}
 use Rattle.stage3.specs.Stage3.{stage3, Handed}
 use Rattle.stage3.specs.Meaning.{Meaning}
 use Rattle.stage3.specs.MeaningLaws.{stage3_means}
-use Rattle.stage3.specs.declared.Found.TheVariants.{Pair}
+use Rattle.stage3.specs.Pick.{Pair}
 use Rattle.silk_pitch_analysis.specs.declared.Verdict.{Verdict}
 use Rattle.silk_pitch_analysis.specs.declared.Verdict.TheVariants.{Voiced, Unvoiced, ZeroDivisor}
 use Rattle.silk_pitch_analysis.specs.Steps.{WinnerRange, VerdictCarried, voiced}

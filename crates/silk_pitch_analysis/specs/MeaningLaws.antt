@@ -11,21 +11,16 @@ use Rattle.pitch_settings.specs.declared.Settings.{Settings}
 use Rattle.pitch_settings.specs.Settings.{settings_no, frame_length}
 use Rattle.pitch_settings.specs.SettingsLaws.{accepted_settings}
 use Rattle.frame_signals.specs.ScaleLaws.{length_scaled}
-use Rattle.stage1.specs.Stage1.{stage1, Handed1}
+use Rattle.stage1.specs.Stage1.{stage1, Handed1, Screen, ZeroDivisor as Zeroed, Unvoiced as Low, Goes}
 use Rattle.stage1.specs.Meaning.{Said}
 use Rattle.stage1.specs.MeaningLaws.{zero_where, zero_only, unvoiced_only, unvoiced_where, goes_where, stage1_means}
-use Rattle.stage1.specs.declared.Screen.{Screen}
-use Rattle.stage1.specs.declared.Screen.TheVariants.{ZeroDivisor as Zeroed, Unvoiced as Low, Goes}
-use Rattle.stage2.specs.Stage2.{stage2}
+use Rattle.stage2.specs.Stage2.{stage2, Stage2, ZeroDivisor as ZeroIn2, Unvoiced as NoWinner, Winner}
 use Rattle.stage2.specs.Meaning.{Meaning2}
 use Rattle.stage2.specs.MeaningLaws.{stage2_means, stage2_only}
-use Rattle.stage2.specs.declared.Stage2.{Stage2}
-use Rattle.stage2.specs.declared.Stage2.TheVariants.{ZeroDivisor as ZeroIn2, Unvoiced as NoWinner, Winner}
 use Rattle.stage3.specs.Stage3.{stage3}
 use Rattle.stage3.specs.Meaning.{Meaning as Meaning3}
 use Rattle.stage3.specs.MeaningLaws.{stage3_means, stage3_only}
-use Rattle.stage3.specs.declared.Found.{Found}
-use Rattle.stage3.specs.declared.Found.TheVariants.{Pair, ZeroDivisor as ZeroIn3}
+use Rattle.stage3.specs.Pick.{Found, Pair, ZeroDivisor as ZeroIn3}
 use Rattle.silk_pitch_analysis.specs.declared.Verdict.{Verdict}
 use Rattle.silk_pitch_analysis.specs.declared.Verdict.TheVariants.{Voiced, Unvoiced, ZeroDivisor}
 use Rattle.silk_pitch_analysis.specs.Frame.{scaled_lag, from_pair, last_stage, from_winner, second_stage, from_screen, staged, verdict_of}

@@ -1,10 +1,21 @@
 -- What the private functions of the frame call hand to each other. Definitions only.
-use Rattle.std.specs.Prelude.{◌≡◌, true, ℕ, ◌≤◌, ◌<◌, ℤ}
+use Rattle.std.specs.Prelude.{Result, Ok, Err, ◌≡◌, true, ℕ, ◌≤◌, ◌<◌, ℤ}
+use Rattle.answers.specs.declared.NoPitch.{NoPitch}
+use Rattle.answers.specs.declared.NoPitch.TheVariants.{Unvoiced as HasNone, ZeroDivisor as ByZero}
 use Rattle.pitch_settings.specs.declared.Settings.{Settings}
 use Rattle.silk_tables.specs.Tables.{contours2}
 use Rattle.silk_tables.specs.Rebuild.{carried}
 use Rattle.silk_pitch_analysis.specs.declared.Verdict.{Verdict}
 use Rattle.silk_pitch_analysis.specs.declared.Verdict.TheVariants.{Voiced, Unvoiced, ZeroDivisor}
+
+-- the verdict of a frame without pitch, and that of the stages' answer
+abbrev pub verdict_without : NoPitch → Verdict
+verdict_without HasNone = Unvoiced
+verdict_without ByZero = ZeroDivisor
+
+abbrev pub verdict_from : Result Verdict NoPitch → Verdict
+verdict_from (Ok v) = v
+verdict_from (Err e) = verdict_without e
 
 -- a winner of stage 2: a lag from 2 ms to less than 18 ms at 8 kHz, with a contour that stage 2 tries
 pub record WinnerRange (s : Settings) (lag contour : ℕ) : Type 0 where

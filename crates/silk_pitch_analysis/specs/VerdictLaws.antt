@@ -12,16 +12,11 @@ use Rattle.silk_tables.specs.Tables.{greatest_lag, greatest_index}
 use Rattle.silk_tables.specs.ContourLaws.{contours_8, contours_other}
 use Rattle.frame_signals.specs.Scale.{scaled}
 use Rattle.frame_signals.specs.ScaleLaws.{length_scaled}
-use Rattle.stage1.specs.Stage1.{stage1, kept_lags}
-use Rattle.stage1.specs.declared.Screen.{Screen}
-use Rattle.stage1.specs.declared.Screen.TheVariants.{ZeroDivisor as Zero1, Unvoiced as Unvoiced1, Goes}
-use Rattle.stage2.specs.Stage2.{stage2}
+use Rattle.stage1.specs.Stage1.{stage1, kept_lags, Screen, ZeroDivisor as Zero1, Unvoiced as Unvoiced1, Goes}
+use Rattle.stage2.specs.Stage2.{stage2, Stage2, ZeroDivisor as Zero2, Unvoiced as Unvoiced2, Winner}
 use Rattle.stage2.specs.MeaningLaws.{winner_range}
-use Rattle.stage2.specs.declared.Stage2.{Stage2}
-use Rattle.stage2.specs.declared.Stage2.TheVariants.{ZeroDivisor as Zero2, Unvoiced as Unvoiced2, Winner}
 use Rattle.stage3.specs.Stage3.{stage3}
-use Rattle.stage3.specs.declared.Found.{Found}
-use Rattle.stage3.specs.declared.Found.TheVariants.{Pair, ZeroDivisor as Zero3}
+use Rattle.stage3.specs.Pick.{Found, Pair, ZeroDivisor as Zero3}
 use Rattle.silk_pitch_analysis.specs.Frame.{signal8, signal4, scaled_lag, from_pair, last_stage, from_winner, second_stage, from_screen, staged, verdict_of}
 use Rattle.silk_pitch_analysis.specs.Steps.{WinnerRange, VerdictCarried, unvoiced, zero_divisor}
 use Rattle.silk_pitch_analysis.specs.FrameLaws.{pair_carried, stage3_range}

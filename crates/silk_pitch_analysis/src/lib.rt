@@ -9,17 +9,18 @@ ghost use Rattle.silk_pitch_analysis.specs.Frame.{from_pair, last_stage, from_wi
 ghost use Rattle.stage1.specs.Stage1.{stage1};
 ghost use Rattle.stage2.specs.Stage2.{stage2};
 ghost use Rattle.stage2_correlations.specs.Marks.{Kept};
-ghost use Rattle.stage3.specs.declared.Found.TheVariants.{Pair as FoundPair};
-ghost use Rattle.silk_pitch_analysis.specs.Steps.{VerdictCarried, WinnerRange};
+ghost use Rattle.stage3.specs.Pick.{Pair as FoundPair};
+ghost use Rattle.silk_pitch_analysis.specs.Steps.{verdict_without, verdict_from, VerdictCarried, WinnerRange};
 
+use answers::NoPitch;
 use frame_signals::{frame_4khz, frame_8khz, frame_shift, scale_into, working_frame};
 use pitch_settings::{Analysed, Settings};
 use pitch_table::{Pair, Row};
 use refusals::Refusal;
 use silk_resampler::source_filter;
-use stage1::{Screen, search_stage1};
-use stage2::{Stage2, search_stage2};
-use stage3::{Found, search_stage3};
+use stage1::search_stage1;
+use stage2::{Previous, search_stage2};
+use stage3::search_stage3;
 
 // A frame's verdict, and a voiced frame's pair and correlation (Q15).
 #[derive(Clone, Copy)]
@@ -31,6 +32,17 @@ pub enum Verdict {
     },
     Unvoiced,
     ZeroDivisor,
+}
+
+impl From<NoPitch> for Verdict {
+    ghost from_gives = { λ e v. v ≡ verdict_without e };
+
+    fn from(e: NoPitch) -> Verdict {
+        match e {
+            NoPitch::Unvoiced => Verdict::Unvoiced,
+            NoPitch::ZeroDivisor => Verdict::ZeroDivisor,
+        }
+    }
 }
 
 // The settings as analysed ones for n samples and m lag places, or refusal 1 to 5.
@@ -66,23 +78,25 @@ fn voiced(fs_khz: usize, lag: usize, contour: usize, correlation: i32) -> Verdic
 }
 
 // The verdict of stage 2's winner: at 8 kHz its own pair, else stage 3's.
-fn last_stage(w: &[i16], s: Analysed, lag: usize, contour: usize, correlation: i32) -> Verdict
+fn last_stage(
+    w: &[i16],
+    s: Analysed,
+    lag: usize,
+    contour: usize,
+    correlation: i32,
+) -> Result<Verdict, NoPitch>
     requires frame { length w.now ≡ frame_length s.settings }
     requires winner { WinnerRange s.settings lag contour }
-    ensures { result ≡ last_stage s.settings w.now lag contour correlation }
+    ensures { verdict_from result ≡ last_stage s.settings w.now lag contour correlation }
 {
     let s = s.settings;
     let fs_khz = s.rate;
     if fs_khz == 8 {
-        return voiced(fs_khz, lag, contour, correlation);
+        return Ok(voiced(fs_khz, lag, contour, correlation));
     }
-    let nb = s.nb;
-    let complexity = s.complexity;
-    let found = search_stage3(w, lag * fs_khz / 8, nb, complexity, fs_khz);
-    let Found::Pair { lag: d, contour: j } = found else {
-        return Verdict::ZeroDivisor;
-    };
-    voiced(fs_khz, d, j, correlation)
+    let scaled = lag * fs_khz / 8;
+    let found = search_stage3(w, scaled, s).ok_or(NoPitch::ZeroDivisor)?;
+    Ok(voiced(fs_khz, found.lag, found.contour, correlation))
 }
 
 // The lag of subframe k.
@@ -145,57 +159,32 @@ fn second_stage(
     e: &[i16],
     kept: &[usize],
     s: Analysed,
-    prev_lag: i32,
-    prev_corr: i32,
-) -> Verdict
+    prev: Previous,
+) -> Result<Verdict, NoPitch>
     requires frame { length w.now ≡ frame_length s.settings }
     requires eight { length e.now ≡ (20 + 5 * s.settings.nb) * 8 }
     requires kept { Kept kept.now }
-    ensures { result ≡ from_winner s.settings w.now (stage2 e.now kept.now s.settings.rate s.settings.nb s.settings.complexity s.settings.thres2 prev_lag prev_corr) }
+    ensures { verdict_from result ≡ from_winner s.settings w.now (stage2 e.now kept.now s.settings.rate s.settings.nb s.settings.complexity s.settings.thres2 prev.lag prev.correlation) }
 {
-    let answer = search_stage2(
-        e,
-        kept,
-        s.settings.rate,
-        s.settings.nb,
-        s.settings.complexity,
-        s.settings.thres2,
-        prev_lag,
-        prev_corr,
-    );
-    match answer {
-        Stage2::Winner {
-            lag,
-            contour,
-            correlation,
-        } => last_stage(w, s, lag, contour, correlation),
-        Stage2::Unvoiced => Verdict::Unvoiced,
-        Stage2::ZeroDivisor => Verdict::ZeroDivisor,
-    }
+    let winner = search_stage2(e, kept, s.settings, prev)?;
+    last_stage(w, s, winner.lag, winner.contour, winner.correlation)
 }
 
-// The stages in order, on the working frame and its forms at 8 and 4 kHz.
-fn stages(w: &[i16], e: &[i16], f: &[i16], s: Analysed, prev_lag: i32, prev_corr: i32) -> Verdict
+// The stages in order, on the working frame and its forms at 8 and 4 kHz: a voiced verdict, or why there is no pitch.
+fn stages(w: &[i16], e: &[i16], f: &[i16], s: Analysed, prev: Previous) -> Result<Verdict, NoPitch>
     requires frame { length w.now ≡ frame_length s.settings }
     requires eight { length e.now ≡ (20 + 5 * s.settings.nb) * 8 }
     requires four { length f.now ≡ (20 + 5 * s.settings.nb) * 4 }
-    ensures { result ≡ from_screen s.settings w.now e.now f.now prev_lag prev_corr (stage1 f.now s.settings.nb s.settings.complexity s.settings.thres1).screen }
+    ensures { verdict_from result ≡ from_screen s.settings w.now e.now f.now prev.lag prev.correlation (stage1 f.now s.settings.nb s.settings.complexity s.settings.thres1).screen }
 {
-    let first = search_stage1(f, s.settings.nb, s.settings.complexity, s.settings.thres1);
-    let screen = first.screen;
-    let lags = first.lags;
-    let count = first.count;
-    match screen {
-        Screen::ZeroDivisor => Verdict::ZeroDivisor,
-        Screen::Unvoiced => Verdict::Unvoiced,
-        Screen::Goes => second_stage(w, e, &lags[..count], s, prev_lag, prev_corr),
-    }
+    let kept = search_stage1(f, s.settings)?;
+    second_stage(w, e, kept.as_slice(), s, prev)
 }
 
 // The working frame w through all stages.
-fn analyse_working(w: &[i16], s: Analysed, prev_lag: i32, prev_corr: i32) -> Verdict
+fn analyse_working(w: &[i16], s: Analysed, prev: Previous) -> Verdict
     requires { length w.now ≡ frame_length s.settings }
-    ensures { result ≡ staged s.settings w.now prev_lag prev_corr }
+    ensures { result ≡ staged s.settings w.now prev.lag prev.correlation }
 {
     let mut buf_8khz = [0i16; 320];
     let mut buf_4khz = [0i16; 160];
@@ -205,13 +194,13 @@ fn analyse_working(w: &[i16], s: Analysed, prev_lag: i32, prev_corr: i32) -> Ver
     let n4 = (20 + 5 * nb) * 4;
     frame_8khz(w, &mut buf_8khz, fs_khz, source_filter());
     frame_4khz(&buf_8khz[..n8], &mut buf_4khz);
-    stages(w, &buf_8khz[..n8], &buf_4khz[..n4], s, prev_lag, prev_corr)
+    stages(w, &buf_8khz[..n8], &buf_4khz[..n4], s, prev).unwrap_or_else(Verdict::from)
 }
 
-// The verdict of the first N samples.
-fn analyse(frame: &[i16], s: Analysed, prev_lag: i32, prev_corr: i32) -> Verdict
+// The verdict of the first N samples, whose pair is one that the code carries.
+fn analyse(frame: &[i16], s: Analysed, prev: Previous) -> Verdict
     requires { frame_length s.settings ≤ length frame.now }
-    ensures verdict { result ≡ verdict_of s.settings (take (frame_length s.settings) frame.now) prev_lag prev_corr }
+    ensures verdict { result ≡ verdict_of s.settings (take (frame_length s.settings) frame.now) prev.lag prev.correlation }
     ensures carried { VerdictCarried s.settings result }
 {
     let n = s.frame_length();
@@ -219,7 +208,7 @@ fn analyse(frame: &[i16], s: Analysed, prev_lag: i32, prev_corr: i32) -> Verdict
     let shift = frame_shift(frame, n);
     scale_into(frame, &mut scratch, n, shift);
     let w = working_frame(frame, &scratch, n, shift);
-    analyse_working(w, s, prev_lag, prev_corr)
+    analyse_working(w, s, prev)
 }
 
 // The row of the first N samples, or refusals 1 to 4 in order: a row has four lag places, so 5 never comes.
@@ -228,7 +217,11 @@ pub fn frame_row(s: Settings, x: &[i16], prev_lag: i32, prev_corr: i32) -> Resul
     ensures numbers { row_answer_in_numbers (told result) ≡ row_in_numbers s x.now prev_lag prev_corr }
 {
     let analysed = accept(s, x.len(), 4)?;
-    let v = analyse(x, analysed, prev_lag, prev_corr);
+    let prev = Previous {
+        lag: prev_lag,
+        correlation: prev_corr,
+    };
+    let v = analyse(x, analysed, prev);
     Ok(verdict_row(analysed, v))
 }
 
@@ -244,7 +237,11 @@ pub fn silk_pitch_analysis_core(
     ensures numbers { frame_answer_numbers (told result) ≡ frame_in_numbers s frame.now (length pitch_out.old) prev_lag prev_corr }
 {
     let analysed = accept(s, frame.len(), pitch_out.len())?;
-    let v = analyse(frame, analysed, prev_lag, prev_corr);
+    let prev = Previous {
+        lag: prev_lag,
+        correlation: prev_corr,
+    };
+    let v = analyse(frame, analysed, prev);
     put_lags(pitch_out, analysed, v);
     Ok(v)
 }

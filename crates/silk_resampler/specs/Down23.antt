@@ -1,6 +1,6 @@
 -- Two thirds of the rate (`silk_resampler_private_ar2` and one batch of `silk_resampler_down2_3`, resampler.rs): a second-order recursion into a buffer, then two outputs for
 -- every three values of it. What differs between the source and the RFC's reference code is a parameter, the code's own `Filter`. Definitions only.
-use Rattle.std.specs.Prelude.{cond, List, ◌∷◌, ◌++◌, ℕ, zero, suc, ◌+◌, ◌-◌, ◌*◌, ◌/◌, ◌%◌, ◌<◌, ltb, eqb, ℤ, pos, ◌+ℤ◌, ◌*ℤ◌, length, drop, replicate}
+use Rattle.std.specs.Prelude.{cond, List, ◌∷◌, ◌++◌, ℕ, zero, suc, ◌+◌, ◌-◌, ◌*◌, ◌/◌, ◌%◌, ltb, eqb, ℤ, pos, ◌+ℤ◌, ◌*ℤ◌, length, drop, replicate}
 use Rattle.std.specs.Int.{w16, w32}
 use Rattle.zint.specs.Clamp.{sat}
 use Rattle.zint.specs.Wrap.{wrap}
@@ -8,20 +8,23 @@ use Rattle.silk_macros.specs.Macros.{smulwb, smlawb, rshift_round}
 use Rattle.lists.specs.Fill.{tabulate}
 use Rattle.lists.specs.Signal.{sample}
 use Rattle.zint.specs.Minus.{minus}
-use Rattle.silk_resampler.specs.declared.Filter.{Filter}
+use Rattle.silk_resampler.specs.declared.filter.Filter.{Filter}
+use Rattle.std.proofs.Common.{lit<}
 
 -- the source's: no factor 4, the output added, and 9 and 8 bits
 unfoldable pub source_filter : Filter
-source_filter = record { factor = 1; adds = 1; round_even = 9; round_odd = 8 }
-
--- a filter that the code can use: the numbers fit a signed word, and the roundings round
-pub record UsableFilter (F : Filter) : Type 0 where
-  pub factor_fits : F.factor < 2147483648
-  pub adds_fits : F.adds < 2147483648
-  pub even_rounds : 0 < F.round_even
-  pub even_below : F.round_even < 31
-  pub odd_rounds : 0 < F.round_odd
-  pub odd_below : F.round_odd < 31
+source_filter = record {
+  factor = 1;
+  adds = 1;
+  round_even = 9;
+  round_odd = 8;
+  factor_fits = lit< tt;
+  adds_fits = lit< tt;
+  even_rounds = lit< tt;
+  even_below = lit< tt;
+  odd_rounds = lit< tt;
+  odd_below = lit< tt;
+}
 
 -- ---- the recursion, with the coefficients a and b
 

@@ -21,7 +21,7 @@ use Rattle.lists.specs.Fill.{tabulate, filled}
 use Rattle.lists.specs.FillLaws.{filled_all, take_filled, length_tabulate, length_filled, get_or-filled, tabulate_ext, filled_ext}
 use Rattle.lists.specs.Signal.{sample}
 use Rattle.silk_resampler.specs.Down23.{States, ar2_out, feedback, first_next, ar2_states, filtered, states_of, with_states, weighted, rounded, even_out, odd_out, decimated, after_history, buffer, down2_3}
-use Rattle.silk_resampler.specs.declared.Filter.{Filter}
+use Rattle.silk_resampler.specs.declared.filter.Filter.{Filter}
 use Rattle.silk_resampler.specs.Down2Laws.{table_fits}
 
 -- ---- a step of the code: what the second state, the output's part and the feedback sum to, each wrapped
@@ -178,12 +178,12 @@ module _ (F : Filter) (s : List ℤ) (x : ℕ → ℤ) (m : ℕ) (b : List ℤ) 
   batch_out out = filled_ext (2 * (m / 3)) out (λ j l. decimated_ext F (m / 3) j l (λ i g. h i (omega arith)))
 
   -- its states: four values of b from m on, and the recursion's, which it left in the part w
-  pub batch_states : (j : ℕ) (z : States) {w : List ℤ} → w ≡ with_states z (take 2 (drop 4 s)) → 4 ≤ j → 4 ≤ length s
-      → filled (sample (take j (drop m b))) 4 (take 4 s ++ (w ++ drop 2 (drop 4 s))) ≡ tabulate (λ i. buffer F s x (m + i)) 4 ++ with_states z (drop 4 s)
+  pub batch_states : (z : States) {w : List ℤ} → w ≡ with_states z (take 2 (drop 4 s)) → 4 ≤ length s
+      → filled (sample (drop m b)) 4 (take 4 s ++ (w ++ drop 2 (drop 4 s))) ≡ tabulate (λ i. buffer F s x (m + i)) 4 ++ with_states z (drop 4 s)
   unfolding filled sample
-  batch_states j z {w} e f g =
+  batch_states z {w} e g =
       ap₂ (λ (t u : List ℤ). t ++ u)
-      (tabulate_ext 4 (λ i l. get_or-take j (drop m b) i (pos 0) (omega arith) ∙ get_or-drop m b i (pos 0) ∙ h (m + i) (omega arith)))
+      (tabulate_ext 4 (λ i l. get_or-drop m b i (pos 0) ∙ h (m + i) (omega arith)))
       (drop_at (take 4 s) (w ++ drop 2 (drop 4 s)) 4 (length-take-le 4 s g) ∙ ap (λ (t : List ℤ). t ++ drop 2 (drop 4 s)) e ∙ with_part z (drop 4 s))
 
 -- ---- a frame

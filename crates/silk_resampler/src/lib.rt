@@ -5,8 +5,11 @@ ghost use Rattle.std.specs.Prelude.{◌≡◌, ◌+◌, ◌*◌, ◌/◌, ◌≤
 ghost use Rattle.lists.specs.Fill.{filled};
 ghost use Rattle.lists.specs.Signal.{sample};
 ghost use Rattle.silk_resampler.specs.Down2.{even_next, odd_next, half_of, halved, down2_states};
-ghost use Rattle.silk_resampler.specs.Down23.{source_filter, UsableFilter, ar2_out, feedback, first_next, ar2_states, filtered, states_of, with_states, weighted, rounded, even_out, odd_out, decimated, buffer, down2_3_states};
+ghost use Rattle.silk_resampler.specs.Down23.{source_filter, ar2_out, feedback, first_next, ar2_states, filtered, states_of, with_states, weighted, rounded, even_out, odd_out, decimated, buffer, down2_3_states};
 
+mod filter;
+
+pub use filter::Filter;
 use silk_macros::{silk_rshift_round, silk_sat16, silk_smlawb, silk_smulwb};
 use zint::{wrapping_add_i32, wrapping_mul_i32, wrapping_sub_i32};
 
@@ -19,16 +22,16 @@ pub const SILK_RESAMPLER_DOWN2_1: i32 = 39809 - 65536;
 // The filter at two thirds of the rate: the recursion's two coefficients in Q14, and the four of the outputs.
 pub const SILK_RESAMPLER_2_3_COEFS_LQ: [i16; 6] = [-2797, -6507, 4697, 10739, 1567, 8276];
 
-// The two states after a pair of samples, and its output.
+// The two states after a step of a decimator, and its output.
 #[derive(Drop)]
-pub struct Halved {
-    pub s0: i32,
-    pub s1: i32,
-    pub out: i16,
+struct Step<T> {
+    s0: i32,
+    s1: i32,
+    out: T,
 }
 
 // One output of the decimator by two, from the samples a and b.
-fn down2_step(s0: i32, s1: i32, a: i16, b: i16) -> Halved
+fn down2_step(s0: i32, s1: i32, a: i16, b: i16) -> Step<i16>
     ensures { (result.s0 ≡ even_next s0 a) × (result.s1 ≡ odd_next s1 b) × (result.out ≡ half_of s0 s1 a b) }
 {
     let in0 = (a as i32) << 10;
@@ -43,7 +46,7 @@ fn down2_step(s0: i32, s1: i32, a: i16, b: i16) -> Halved
     let o2 = wrapping_add_i32(o1, x1);
     let n1 = wrapping_add_i32(in1, x1);
     let out = silk_sat16(silk_rshift_round(o2, 11)) as i16;
-    Halved {
+    Step {
         s0: n0,
         s1: n1,
         out,
@@ -70,27 +73,9 @@ pub fn silk_resampler_down2(s: &mut [i32], out: &mut [i16], input: &[i16], in_le
     s[1] = s1;
 }
 
-// The two states after a sample, and the filter's output.
-#[derive(Drop)]
-pub struct Filtered {
-    pub s0: i32,
-    pub s1: i32,
-    pub out: i32,
-}
-
-// In what the filters at two thirds of the rate differ: by what the recursion's output is multiplied before a coefficient, how often it is itself added to the first state, and
-// the bits by which the first and the second output of a pair are rounded.
-#[derive(Clone, Copy)]
-pub struct Filter {
-    pub factor: u32,
-    pub adds: u32,
-    pub round_even: u32,
-    pub round_odd: u32,
-}
-
 // The source's filter.
 pub fn source_filter() -> Filter
-    ensures { (result ≡ source_filter) × UsableFilter result }
+    ensures { result ≡ source_filter }
 {
     Filter {
         factor: 1,
@@ -101,8 +86,7 @@ pub fn source_filter() -> Filter
 }
 
 // One step of the recursion, of the sample x.
-fn ar2_step(s0: i32, s1: i32, x: i16, a0: i32, a1: i32, filter: Filter) -> Filtered
-    requires { UsableFilter filter }
+fn ar2_step(s0: i32, s1: i32, x: i16, a0: i32, a1: i32, filter: Filter) -> Step<i32>
     ensures { (result.s0 ≡ first_next filter a0 s1 (ar2_out s0 x)) × (result.s1 ≡ feedback filter a1 (ar2_out s0 x)) × (result.out ≡ ar2_out s0 x) }
 {
     let out = wrapping_add_i32(s0, (x as i32) << 8);
@@ -110,7 +94,7 @@ fn ar2_step(s0: i32, s1: i32, x: i16, a0: i32, a1: i32, filter: Filter) -> Filte
     let added = wrapping_add_i32(s1, wrapping_mul_i32(out, filter.adds as i32));
     let n0 = wrapping_add_i32(added, silk_smulwb(fed, a0));
     let n1 = silk_smulwb(fed, a1);
-    Filtered {
+    Step {
         s0: n0,
         s1: n1,
         out,
@@ -126,8 +110,7 @@ pub fn silk_resampler_private_ar2(
     len: usize,
     filter: Filter,
 )
-    requires in_bounds { (2 ≤ length s.old) × ((len ≤ length out_q8.old) × ((len ≤ length input.now) × (2 ≤ length a_q14.now))) }
-    requires usable_filter { UsableFilter filter }
+    requires { (2 ≤ length s.old) × ((len ≤ length out_q8.old) × ((len ≤ length input.now) × (2 ≤ length a_q14.now))) }
     ensures out_q8_after { out_q8.new ≡ filled (filtered filter (sample a_q14.now 0) (sample a_q14.now 1) (states_of s.old) (sample input.now)) len out_q8.old }
     ensures s_after { s.new ≡ with_states (ar2_states filter (sample a_q14.now 0) (sample a_q14.now 1) (states_of s.old) (sample input.now) len) s.old }
 {
@@ -150,17 +133,6 @@ const RESAMPLER_MAX_BATCH_SIZE_IN: usize = 480;
 
 const ORDER_FIR: usize = 4;
 
-// The first n values of `from`, in the first n places of `to`.
-fn copy_values(to: &mut [i32], from: &[i32], n: usize)
-    requires { (n ≤ length to.old) × (n ≤ length from.now) }
-    ensures { to.new ≡ filled (sample from.now) n to.old }
-{
-    for i in 0..n {
-        let value = from[i];
-        to[i] = value;
-    }
-}
-
 // Four neighbours of buf from p on by four coefficients, rounded by shift bits and held within 16.
 fn weighted_output(buf: &[i32], p: usize, c: i16, d: i16, e: i16, f: i16, shift: u32) -> i16
     requires { (p + 4 ≤ length buf.now) × ((0 < shift) × (shift < 31)) }
@@ -175,7 +147,7 @@ fn weighted_output(buf: &[i32], p: usize, c: i16, d: i16, e: i16, f: i16, shift:
 
 // Output 2m.
 fn even_output(buf: &[i32], m: usize, filter: Filter) -> i16
-    requires { (3 * m + 4 ≤ length buf.now) × UsableFilter filter }
+    requires { 3 * m + 4 ≤ length buf.now }
     ensures { result ≡ even_out filter (sample buf.now) m }
 {
     let c = SILK_RESAMPLER_2_3_COEFS_LQ;
@@ -184,16 +156,16 @@ fn even_output(buf: &[i32], m: usize, filter: Filter) -> i16
 
 // Output 2m + 1: the same coefficients from the other end.
 fn odd_output(buf: &[i32], m: usize, filter: Filter) -> i16
-    requires { (3 * m + 5 ≤ length buf.now) × UsableFilter filter }
+    requires { 3 * m + 5 ≤ length buf.now }
     ensures { result ≡ odd_out filter (sample buf.now) m }
 {
     let c = SILK_RESAMPLER_2_3_COEFS_LQ;
     weighted_output(buf, 3 * m + 1, c[4], c[5], c[3], c[2], filter.round_odd)
 }
 
-// Two outputs for every three values of buf, n times.
+// Two outputs for every three values of buf, n times. By places and not by chunks: the outputs of three values read two values of the next three as well.
 fn decimate(out: &mut [i16], buf: &[i32], n: usize, filter: Filter)
-    requires { (2 * n ≤ length out.old) × (3 * n + 2 ≤ length buf.now) × UsableFilter filter }
+    requires { (2 * n ≤ length out.old) × (3 * n + 2 ≤ length buf.now) }
     ensures { out.new ≡ filled (decimated filter (sample buf.now)) (2 * n) out.old }
 {
     for m in 0..n {
@@ -212,13 +184,12 @@ pub fn silk_resampler_down2_3(
     in_len: usize,
     filter: Filter,
 )
-    requires in_bounds { (6 ≤ length s.old) × ((2 * (in_len / 3) ≤ length out.old) × ((in_len ≤ length input.now) × (in_len ≤ 480))) }
-    requires usable_filter { UsableFilter filter }
+    requires { (6 ≤ length s.old) × ((2 * (in_len / 3) ≤ length out.old) × ((in_len ≤ length input.now) × (in_len ≤ 480))) }
     ensures out_after { out.new ≡ filled (decimated filter (buffer filter s.old (sample input.now))) (2 * (in_len / 3)) out.old }
     ensures s_after { s.new ≡ down2_3_states filter s.old (sample input.now) in_len }
 {
     let mut buf = [0i32; RESAMPLER_MAX_BATCH_SIZE_IN + ORDER_FIR];
-    copy_values(&mut buf, s, ORDER_FIR);
+    buf[..ORDER_FIR].copy_from_slice(&s[..ORDER_FIR]);
     silk_resampler_private_ar2(
         &mut s[ORDER_FIR..ORDER_FIR + 2],
         &mut buf[ORDER_FIR..ORDER_FIR + in_len],
@@ -228,5 +199,5 @@ pub fn silk_resampler_down2_3(
         filter,
     );
     decimate(out, &buf, in_len / 3, filter);
-    copy_values(s, &buf[in_len..], ORDER_FIR);
+    s[..ORDER_FIR].copy_from_slice(&buf[in_len..in_len + ORDER_FIR]);
 }

@@ -36,13 +36,7 @@ pub fn lag_of(fs_khz: usize, nb_subfr: usize, lag_index: i32, contour_index: usi
     let greatest = lag_max(fs_khz) as i32;
     let primary = least + lag_index;
     let lag = primary + codebook_offset(fs_khz, nb_subfr, k, contour_index);
-    if lag > greatest {
-        greatest
-    } else if lag < least {
-        least
-    } else {
-        lag
-    }
+    lag.clamp(least, greatest)
 }
 
 // Whether the index is one of the rate's and the contour is one in use.

@@ -9,9 +9,7 @@ use Rattle.std.specs.Int.Signed.{lt_z}
 use Rattle.answers.specs.Answer.{answer_numbers}
 use Rattle.lists.specs.Fill.{tabulate, filled}
 use Rattle.lists.specs.FillLaws.{get_d_tabulate, length_tabulate, length_filled}
-use Rattle.stage1.specs.declared.Screen.TheVariants.{ZeroDivisor, Unvoiced, Goes}
-use Rattle.stage1.specs.declared.Stage1.{Stage1}
-use Rattle.stage1.specs.Stage1.{zero1, scores1, lag_at, score_at, kept_count, stopped, screened, stage1, screen_numbers, screen_number, kept_lags}
+use Rattle.stage1.specs.Stage1.{ZeroDivisor, Unvoiced, Goes, Stage1, zero1, scores1, lag_at, score_at, kept_count, stopped, screened, stage1, screen_numbers, screen_number, kept_lags}
 use Rattle.stage1.specs.Meaning.{Lag, place1}
 use Rattle.stage1.specs.KeptLaws.{search_length_few}
 use Rattle.stage1.specs.PlaceLaws.{lag_is, place_at, scan}

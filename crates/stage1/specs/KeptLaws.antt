@@ -1,7 +1,7 @@
 -- Laws of stage 1's choice of the lags that go on.
 use Rattle.std.specs.Prelude.{◌≡◌, refl, Bool, true, false, ℕ, zero, suc, ◌+◌, ◌≤◌, ◌<◌, ℤ, pos, length, take, replicate, ◌≤ℤ◌, ◌<ℤ◌}
 use Rattle.std.proofs.Math.Path.{sym, ap, ap₂}
-use Rattle.std.proofs.Common.{◌∙◌, subst, arith, lit≤, take_all}
+use Rattle.std.proofs.Common.{◌∙◌, subst, arith, take_all}
 use Rattle.std.proofs.Math.Bool.{cond}
 use mathlib.Core.List.{List}
 use Rattle.std.proofs.Math.Decide.{dec_lt}
@@ -10,15 +10,13 @@ use Rattle.std.specs.Int.Signed.{lt_z, le_z}
 use Rattle.zint.specs.OrderLaws.{le_yes, le_no}
 use Rattle.lists.specs.Signal.{sample}
 use Rattle.lists.specs.Fill.{filled}
-use Rattle.lists.specs.FillLaws.{filled_all, filled_ext, get_or-filled, get_d_tabulate, length_filled, length_tabulate}
+use Rattle.lists.specs.FillLaws.{filled_ext, get_or-filled, get_d_tabulate, length_filled, length_tabulate}
 use Rattle.best.specs.Best.{Place, at, first_from}
 use Rattle.best.specs.BestLaws.{first_at, first_none}
 use Rattle.silk_macros.specs.Macros.{smulwb}
-use Rattle.stage1.specs.declared.Screen.TheVariants.{ZeroDivisor, Unvoiced, Goes}
-use Rattle.stage1.specs.declared.Stage1.{Stage1}
+use Rattle.stage1.specs.Stage1.{ZeroDivisor, Unvoiced, Goes, Stage1, zero1, score1, scores1, lag_at, score_at, search_length, threshold1, place_or, kept_count, stopped, screened, stage1}
 use Rattle.silk_sort.specs.Rank.{ranked}
 use Rattle.silk_sort.specs.RankLaws.{ranked_below}
-use Rattle.stage1.specs.Stage1.{zero1, score1, scores1, lag_at, score_at, search_length, threshold1, place_or, kept_count, stopped, screened, stage1}
 use Rattle.stage1.specs.Steps.{count_above, selected}
 
 -- p is the first number from i up to e that passes the test, or e where none does
@@ -109,17 +107,13 @@ pub stage1_zero : (f : List ℤ) (nb cx : ℕ) (thres1 : ℤ) → zero1 f nb ≡
 unfolding stage1
 stage1_zero f nb cx thres1 e = sym (ap (λ (t : Bool). cond t (stopped ZeroDivisor) (screened (scores1 f nb) cx thres1)) e)
 
-module _ (f : List ℤ) (nb : ℕ) (c a : List ℤ) (d : List ℕ) (k : ℕ) (ec : c ≡ filled (λ i. score1 f nb (8 + i)) 65 (replicate 65 (pos 0)))
+module _ (f : List ℤ) (nb : ℕ) (c a : List ℤ) (d : List ℕ) (k : ℕ) (ec : c ≡ scores1 f nb)
     (ea : a ≡ filled (λ r. sample (take 65 c) (ranked (take 65 c) r)) k c) (ed : d ≡ filled (ranked (take 65 c)) k (replicate 8 0)) (hk : k ≤ 8) where
   abbrev xs : List ℤ
   xs = scores1 f nb
 
-  same : c ≡ xs
-  unfolding scores1
-  same = ec ∙ filled_all (λ i. score1 f nb (8 + i)) 65 (replicate 65 (pos 0)) (lit≤ tt)
-
   whole : take 65 c ≡ xs
-  whole = ap (take 65) same ∙ take_all 65 xs (omega (arith, length_scores f nb))
+  whole = ap (take 65) ec ∙ take_all 65 xs (omega (arith, length_scores f nb))
 
   score_is : (i : ℕ) → i < k → sample a i ≡ score_at xs i
   unfolding sample score_at
@@ -136,7 +130,7 @@ module _ (f : List ℤ) (nb : ℕ) (c a : List ℤ) (d : List ℕ) (k : ℕ) (ec
 
   -- what the selection asks
   pub scores_long : k ≤ length a
-  scores_long = omega (arith, ap length ea, length_filled (λ r. sample (take 65 c) (ranked (take 65 c) r)) k c (omega (arith, ap length same, length_scores f nb)), ap length same, length_scores f nb)
+  scores_long = omega (arith, ap length ea, length_filled (λ r. sample (take 65 c) (ranked (take 65 c) r)) k c (omega (arith, ap length ec, length_scores f nb)), ap length ec, length_scores f nb)
 
   pub indices_long : k ≤ length d
   indices_long = omega (arith, ap length ed, length_filled (ranked (take 65 c)) k (replicate 8 0) hk)

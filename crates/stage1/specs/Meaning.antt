@@ -3,10 +3,7 @@
 use Rattle.std.specs.Prelude.{◌≡◌, List, ◌⊎◌, ℕ, ◌+◌, ◌-◌, ◌*◌, ◌/◌, ◌≤◌, ◌<◌, ℤ, pos, length, get_or, replicate, ◌≤ℤ◌, ◌<ℤ◌}
 use Rattle.silk_macros.specs.Macros.{smulwb}
 use Rattle.silk_sort.specs.Rank.{rank}
-use Rattle.stage1.specs.declared.Screen.{Screen}
-use Rattle.stage1.specs.declared.Screen.TheVariants.{ZeroDivisor, Unvoiced, Goes}
-use Rattle.stage1.specs.declared.Stage1.{Stage1}
-use Rattle.stage1.specs.Stage1.{divisor1, score1, scores1}
+use Rattle.stage1.specs.Stage1.{Screen, ZeroDivisor, Unvoiced, Goes, Stage1, divisor1, score1, scores1}
 
 -- "lags 8 to 72"
 pub record Lag (d : ℕ) : Type 0 where

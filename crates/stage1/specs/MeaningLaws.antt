@@ -20,10 +20,7 @@ use Rattle.silk_macros.specs.DivideLaws.{by_zero_is}
 use Rattle.silk_sort.specs.Rank.{ranked}
 use Rattle.silk_sort.specs.RankLaws.{ranked_greatest, precedes_rank, rank_precedes}
 use Rattle.silk_sort.specs.PlaceLaws.{Before, precedes_yes, precedes_true}
-use Rattle.stage1.specs.declared.Screen.{Screen}
-use Rattle.stage1.specs.declared.Screen.TheVariants.{ZeroDivisor, Unvoiced, Goes}
-use Rattle.stage1.specs.declared.Stage1.{Stage1}
-use Rattle.stage1.specs.Stage1.{cross1, divisor1, quotient1, zero1, score1, scores1, lag_at, score_at, search_length, threshold1, kept_count, stopped, screened, stage1, Handed1}
+use Rattle.stage1.specs.Stage1.{Screen, ZeroDivisor, Unvoiced, Goes, Stage1, cross1, divisor1, quotient1, zero1, score1, scores1, lag_at, score_at, search_length, threshold1, kept_count, stopped, screened, stage1, Handed1}
 use Rattle.stage1.specs.Steps.{zero_in}
 use Rattle.stage1.specs.ScoreLaws.{zero1_halves}
 use Rattle.stage1.specs.KeptLaws.{First, search_length_few}

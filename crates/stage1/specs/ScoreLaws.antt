@@ -1,7 +1,7 @@
 -- Laws of stage 1's correlations and scores.
-use Rattle.std.specs.Prelude.{◌≡◌, refl, Bool, true, ◌⊎◌, ℕ, suc, ◌+◌, ◌-◌, ◌*◌, ◌/◌, ◌≤◌, ◌<◌, ℤ, pos, negsuc, nat_abs, ◌-ℤ◌, ◌*ℤ◌, length, drop, replicate}
+use Rattle.std.specs.Prelude.{Option, Some, None, ◌≡◌, refl, Bool, true, ◌⊎◌, ℕ, suc, ◌+◌, ◌-◌, ◌*◌, ◌/◌, ◌≤◌, ◌<◌, ℤ, pos, negsuc, nat_abs, ◌-ℤ◌, ◌*ℤ◌, length, drop, replicate}
 use Rattle.std.proofs.Math.Path.{sym, ap, ap₂}
-use Rattle.std.proofs.Common.{◌∙◌, true≢false, ⊎_elim, lit<, lit≤, drop-drop, SFits}
+use Rattle.std.proofs.Common.{◌∙◌, ⊎_elim, lit<, lit≤, drop-drop, SFits}
 use Rattle.std.proofs.Math.Bool.{false, cond}
 use mathlib.Core.List.{List}
 use native.Mathlib.Omega.{arith}
@@ -16,7 +16,7 @@ use Rattle.zint.specs.DiffLaws.{up, dn, v, n, ◌⊕◌, ◌⊖◌, ◌⊗◌, r
 use Rattle.zint.specs.BoundLaws.{abs_ud, abs_prod, fits_abs}
 use Rattle.lists.specs.Signal.{sample}
 use Rattle.lists.specs.Fill.{tabulate, filled}
-use Rattle.lists.specs.FillLaws.{filled_all, tabulate_ext, filled_ext, get_d_tabulate, get_or-filled}
+use Rattle.lists.specs.FillLaws.{filled_all, tabulate_ext, get_d_tabulate}
 use Rattle.best.specs.Best.{some}
 use Rattle.best.specs.BestLaws.{some_true, some_false, some_ext}
 use Rattle.best.specs.PairLaws.{some_pairs}
@@ -24,10 +24,8 @@ use Rattle.silk_sigproc.specs.Dot.{dot}
 use Rattle.silk_sigproc.specs.DotLaws.{dot_slide}
 use Rattle.silk_macros.specs.Macros.{smulbb}
 use Rattle.silk_macros.specs.Divide.{quotient, by_zero, low16_of}
-use Rattle.silk_macros.specs.declared.Quotient.{Quotient}
-use Rattle.silk_macros.specs.declared.Quotient.TheVariants.{Value, ZeroDivisor as ByZero}
-use Rattle.stage1.specs.Stage1.{target1, cross_sum1, target_energy1, basis_energy1, divisor_sum1, cross1, divisor1, quotient1, divisors1, half_no, lag_no1, zero1, corr1, sum1, biased1, score1}
-use Rattle.stage1.specs.Steps.{quotient_at, Divided, zero_in, HalfFrame, Scored}
+use Rattle.stage1.specs.Stage1.{target1, cross_sum1, target_energy1, basis_energy1, divisor_sum1, cross1, divisor1, quotient1, divisors1, half_no, lag_no1, zero1, corr1, sum1, biased1, score1, scores1}
+use Rattle.stage1.specs.Steps.{quotient_at, quotients, zero_in, half_frame, scored}
 
 -- ---- the correlations and the divisors along the lags
 
@@ -92,16 +90,20 @@ squares_differ {x} {y} f g =
 -- ---- quotients
 
 -- a quotient that has a value
-pub value_low : {q : Quotient} {z : ℤ} → q ≡ Value z → (by_zero q ≡ false) × (low16_of q ≡ wrap w16 z)
+pub value_low : {q : Option ℤ} {z : ℤ} → q ≡ Some z → (by_zero q ≡ false) × (low16_of q ≡ wrap w16 z)
 value_low e = (ap by_zero e, ap low16_of e)
 
 -- no divisor is zero, and the array is filled
-pub no_divisor_zero : (xs ns c₀ c : List ℤ) → ((i : ℕ) → i < 65 → by_zero (quotient_at xs ns i) ≡ false) → c ≡ filled (λ i. low16_of (quotient_at xs ns i)) 65 c₀ → Divided xs ns c₀ c false
-no_divisor_zero xs ns c₀ c h e = record { zero_is = sym (some_false 65 _ h); array_is = λ z. e }
+pub no_divisor_zero : (xs ns c : List ℤ) → ((i : ℕ) → i < 65 → by_zero (quotient_at xs ns i) ≡ false) → c ≡ filled (λ i. low16_of (quotient_at xs ns i)) 65 (replicate 65 (pos 0)) → Some c ≡ quotients xs ns
+unfolding quotients
+no_divisor_zero xs ns c h e =
+    ap Some (e ∙ filled_all (λ i. low16_of (quotient_at xs ns i)) 65 (replicate 65 (pos 0)) (lit≤ tt))
+    ∙ sym (ap (λ (t : Bool). cond t None (Some (tabulate (λ i. low16_of (quotient_at xs ns i)) 65))) (some_false 65 _ h))
 
 -- a divisor is zero
-pub a_divisor_zero : (xs ns c₀ c : List ℤ) (i : ℕ) → i < 65 → quotient_at xs ns i ≡ ByZero → Divided xs ns c₀ c true
-a_divisor_zero xs ns c₀ c i l e = record { zero_is = sym (some_true 65 _ i l (ap by_zero e)); array_is = λ z. absurd (true≢false z) }
+pub a_divisor_zero : (xs ns : List ℤ) (i : ℕ) → i < 65 → quotient_at xs ns i ≡ None → None ≡ quotients xs ns
+unfolding quotients
+a_divisor_zero xs ns i l e = sym (ap (λ (t : Bool). cond t None (Some (tabulate (λ i. low16_of (quotient_at xs ns i)) 65))) (some_true 65 _ i l (ap by_zero e)))
 
 -- the arrays of a half-frame hold what its quotients are taken of
 module _ (f : List ℤ) (h : ℕ) where
@@ -114,13 +116,12 @@ module _ (f : List ℤ) (h : ℕ) where
       (get_d_tabulate (λ k. cross1 f h (72 - k)) 65 (64 - i) (pos 0) (omega arith) ∙ ap (cross1 f h) e)
       (get_d_tabulate (λ k. divisor1 f h (8 + k)) 65 i (pos 0) l)
 
-  pub half_frame_of : (xs ns c₀ c : List ℤ) (zero : Bool) → xs ≡ tabulate (λ i. cross1 f h (72 - i)) 65 → ns ≡ tabulate (λ i. divisor1 f h (8 + i)) 65 → Divided xs ns c₀ c zero → HalfFrame f h c₀ c zero
-  unfolding zero_in corr1
-  half_frame_of xs ns c₀ c zero ex en d =
-      record {
-        zero_is = d.zero_is ∙ some_ext 65 _ _ (λ i l. ap by_zero (quotient_at_is xs ns ex en i l));
-        array_is = λ z. d.array_is z ∙ filled_ext 65 c₀ (λ i l. ap low16_of (quotient_at_is xs ns ex en i l));
-      }
+  pub half_frame_of : (xs ns : List ℤ) → xs ≡ tabulate (λ i. cross1 f h (72 - i)) 65 → ns ≡ tabulate (λ i. divisor1 f h (8 + i)) 65 → quotients xs ns ≡ half_frame f h
+  unfolding quotients half_frame zero_in corr1
+  half_frame_of xs ns ex en =
+      ap₂ (λ (t : Bool) (l : List ℤ). cond t None (Some l))
+      (some_ext 65 _ _ (λ i l. ap by_zero (quotient_at_is xs ns ex en i l)))
+      (tabulate_ext 65 (λ i l. ap low16_of (quotient_at_is xs ns ex en i l)))
 
 -- ---- the scores
 
@@ -142,45 +143,85 @@ pub zero1_halves : (f : List ℤ) (nb : ℕ) → zero1 f nb ≡ some (nb / 2) (z
 unfolding zero1 divisors1 half_no lag_no1 zero_in
 zero1_halves f nb = some_pairs (nb / 2) 65 (λ h i. by_zero (quotient1 f h (8 + i))) (lit< tt)
 
+-- a half-frame's answer, way by way
+module _ (f : List ℤ) (h : ℕ) where
+  by_test : (t : Bool) → zero_in f h ≡ t → half_frame f h ≡ cond t None (Some (tabulate (λ i. corr1 f h (8 + i)) 65))
+  unfolding half_frame
+  by_test t e = ap (λ (b : Bool). cond b None (Some (tabulate (λ i. corr1 f h (8 + i)) 65))) e
+
+  pub half_none : half_frame f h ≡ None → zero_in f h ≡ true
+  half_none e = by (zero_in f h) refl
+    where
+      by : (t : Bool) → zero_in f h ≡ t → zero_in f h ≡ true
+      by true z = z
+      by false z = let q : Some (tabulate (λ i. corr1 f h (8 + i)) 65) ≡ None = sym (by_test false z) ∙ e in cc
+
+  pub half_some : (a : List ℤ) → half_frame f h ≡ Some a → (zero_in f h ≡ false) × (a ≡ tabulate (λ i. corr1 f h (8 + i)) 65)
+  half_some a e = by (zero_in f h) refl
+    where
+      by : (t : Bool) → zero_in f h ≡ t → (zero_in f h ≡ false) × (a ≡ tabulate (λ i. corr1 f h (8 + i)) 65)
+      by true z = let q : None ≡ Some a = sym (by_test true z) ∙ e in cc
+      by false z = let q : Some (tabulate (λ i. corr1 f h (8 + i)) 65) ≡ Some a = sym (by_test false z) ∙ e in (z, cc)
+
 module _ (f : List ℤ) (nb : ℕ) where
   -- a zero divisor in half-frame h
-  pub scored_zero : (h : ℕ) (a₀ a c₀ c : List ℤ) (zero : Bool) → h < nb / 2 → HalfFrame f h a₀ a zero → zero ≡ true → Scored f nb c₀ c true
-  scored_zero h a₀ a c₀ c zero l r e =
-      record { zero_is = sym (zero1_halves f nb ∙ some_true (nb / 2) (zero_in f) h l (sym r.zero_is ∙ e)); array_is = λ z. absurd (true≢false z) }
+  pub scored_zero : (h : ℕ) → h < nb / 2 → half_frame f h ≡ None → None ≡ scored f nb
+  unfolding scored
+  scored_zero h l e = sym (ap (λ (t : Bool). cond t None (Some (scores1 f nb))) (zero1_halves f nb ∙ some_true (nb / 2) (zero_in f) h l (half_none f h e)))
 
   -- the scores from the correlations of half-frames 0 and h
-  combined : (h : ℕ) → ((d : ℕ) → corr1 f 0 d +ℤ corr1 f h d ≡ sum1 f nb d) → (a₀ a b₀ b c₀ c : List ℤ) → a ≡ filled (λ i. corr1 f 0 (8 + i)) 65 a₀ → b ≡ filled (λ i. corr1 f h (8 + i)) 65 b₀
-      → c ≡ filled (λ i. biased1 (sample a i +ℤ sample b i) (8 + i)) 65 c₀ → c ≡ filled (λ i. score1 f nb (8 + i)) 65 c₀
-  unfolding score1 sample
-  combined h s a₀ a b₀ b c₀ c ea eb ec =
-      ec
-      ∙ filled_ext 65 c₀ (λ i l.
+  combined : (h : ℕ) → ((d : ℕ) → corr1 f 0 d +ℤ corr1 f h d ≡ sum1 f nb d) → (a b : List ℤ) → a ≡ tabulate (λ i. corr1 f 0 (8 + i)) 65 → b ≡ tabulate (λ i. corr1 f h (8 + i)) 65
+      → tabulate (λ i. biased1 (sample a i +ℤ sample b i) (8 + i)) 65 ≡ scores1 f nb
+  unfolding scores1 score1 sample
+  combined h s a b ea eb =
+      tabulate_ext 65 (λ i l.
       ap (λ (z : ℤ). biased1 z (8 + i))
       (ap₂ ◌+ℤ◌
-      (ap (λ (x : List ℤ). get_or x i (pos 0)) ea ∙ get_or-filled (λ k. corr1 f 0 (8 + k)) 65 a₀ i (pos 0) l)
-      (ap (λ (x : List ℤ). get_or x i (pos 0)) eb ∙ get_or-filled (λ k. corr1 f h (8 + k)) 65 b₀ i (pos 0) l)
+      (ap (λ (x : List ℤ). get_or x i (pos 0)) ea ∙ get_d_tabulate (λ k. corr1 f 0 (8 + k)) 65 i (pos 0) l)
+      (ap (λ (x : List ℤ). get_or x i (pos 0)) eb ∙ get_d_tabulate (λ k. corr1 f h (8 + k)) 65 i (pos 0) l)
       ∙ s (8 + i)))
 
+  -- no half-frame has a zero divisor
+  all_scored : (c : List ℤ) → ((h : ℕ) → h < nb / 2 → zero_in f h ≡ false) → c ≡ scores1 f nb → Some c ≡ scored f nb
+  unfolding scored
+  all_scored c g e = ap Some e ∙ sym (ap (λ (t : Bool). cond t None (Some (scores1 f nb))) (zero1_halves f nb ∙ some_false (nb / 2) (zero_in f) g))
+
   -- one half-frame, which counts twice
-  pub scored_one : (a₀ a c₀ c : List ℤ) (zero : Bool) → nb ≡ 2 → HalfFrame f 0 a₀ a zero → zero ≡ false
-      → c ≡ filled (λ i. biased1 (sample a i +ℤ sample a i) (8 + i)) 65 c₀ → Scored f nb c₀ c false
+  pub scored_one : (a c : List ℤ) → nb ≡ 2 → half_frame f 0 ≡ Some a → c ≡ tabulate (λ i. biased1 (sample a i +ℤ sample a i) (8 + i)) 65 → Some c ≡ scored f nb
   unfolding sum1
-  scored_one a₀ a c₀ c zero n2 r e ec =
-      record {
-        zero_is = sym (zero1_halves f nb ∙ some_false (nb / 2) (zero_in f) (λ h l. let z : h ≡ 0 = omega arith in ap (zero_in f) z ∙ sym r.zero_is ∙ e));
-        array_is = λ z. combined 0 (λ d. twice (corr1 f 0 d) ∙ sym (ap (λ (t : Bool). cond t (corr1 f 0 d +ℤ corr1 f 1 d) (pos 2 *ℤ corr1 f 0 d)) (ap (λ (m : ℕ). eqb m 4) n2))) a₀ a a₀ a c₀ c (r.array_is e) (r.array_is e) ec;
-      }
+  scored_one a c n2 e ec =
+      let r = half_some f 0 a e in
+      all_scored c (λ h l. let z : h ≡ 0 = omega arith in ap (zero_in f) z ∙ r.0)
+      (ec ∙ combined 0 (λ d. twice (corr1 f 0 d) ∙ sym (ap (λ (t : Bool). cond t (corr1 f 0 d +ℤ corr1 f 1 d) (pos 2 *ℤ corr1 f 0 d)) (ap (λ (m : ℕ). eqb m 4) n2))) a a r.1 r.1)
 
   -- two half-frames
-  pub scored_two : (a₀ a b₀ b c₀ c : List ℤ) (zero zero' : Bool) → nb ≡ 4 → HalfFrame f 0 a₀ a zero → zero ≡ false → HalfFrame f 1 b₀ b zero' → zero' ≡ false
-      → c ≡ filled (λ i. biased1 (sample a i +ℤ sample b i) (8 + i)) 65 c₀ → Scored f nb c₀ c false
+  pub scored_two : (a b c : List ℤ) → nb ≡ 4 → half_frame f 0 ≡ Some a → half_frame f 1 ≡ Some b → c ≡ tabulate (λ i. biased1 (sample a i +ℤ sample b i) (8 + i)) 65 → Some c ≡ scored f nb
   unfolding sum1
-  scored_two a₀ a b₀ b c₀ c zero zero' n4 r e r' e' ec =
-      record {
-        zero_is = sym (zero1_halves f nb ∙ some_false (nb / 2) (zero_in f) (λ h l. by_half h (dec_lt h 1) (omega arith)));
-        array_is = λ z. combined 1 (λ d. sym (ap (λ (t : Bool). cond t (corr1 f 0 d +ℤ corr1 f 1 d) (pos 2 *ℤ corr1 f 0 d)) (ap (λ (m : ℕ). eqb m 4) n4))) a₀ a b₀ b c₀ c (r.array_is e) (r'.array_is e') ec;
-      }
+  scored_two a b c n4 e e' ec =
+      let r = half_some f 0 a e in
+      let r' = half_some f 1 b e' in
+      all_scored c (λ h l. by_half h r.0 r'.0 (dec_lt h 1) (omega arith))
+      (ec ∙ combined 1 (λ d. sym (ap (λ (t : Bool). cond t (corr1 f 0 d +ℤ corr1 f 1 d) (pos 2 *ℤ corr1 f 0 d)) (ap (λ (m : ℕ). eqb m 4) n4))) a b r.1 r'.1)
     where
-      by_half : (h : ℕ) → Dec (h < 1) → h < 2 → zero_in f h ≡ false
-      by_half h (yes l) u = let z : h ≡ 0 = omega arith in ap (zero_in f) z ∙ sym r.zero_is ∙ e
-      by_half h (no l) u = let z : h ≡ 1 = omega arith in ap (zero_in f) z ∙ sym r'.zero_is ∙ e'
+      by_half : (h : ℕ) → zero_in f 0 ≡ false → zero_in f 1 ≡ false → Dec (h < 1) → h < 2 → zero_in f h ≡ false
+      by_half h z z' (yes l) u = let q : h ≡ 0 = omega arith in ap (zero_in f) q ∙ z
+      by_half h z z' (no l) u = let q : h ≡ 1 = omega arith in ap (zero_in f) q ∙ z'
+
+  -- the scores' answer, way by way
+  scored_test : (t : Bool) → zero1 f nb ≡ t → scored f nb ≡ cond t None (Some (scores1 f nb))
+  unfolding scored
+  scored_test t e = ap (λ (b : Bool). cond b None (Some (scores1 f nb))) e
+
+  pub scored_none : scored f nb ≡ None → zero1 f nb ≡ true
+  scored_none e = by (zero1 f nb) refl
+    where
+      by : (t : Bool) → zero1 f nb ≡ t → zero1 f nb ≡ true
+      by true z = z
+      by false z = let q : Some (scores1 f nb) ≡ None = sym (scored_test false z) ∙ e in cc
+
+  pub scored_some : (a : List ℤ) → scored f nb ≡ Some a → (zero1 f nb ≡ false) × (a ≡ scores1 f nb)
+  scored_some a e = by (zero1 f nb) refl
+    where
+      by : (t : Bool) → zero1 f nb ≡ t → (zero1 f nb ≡ false) × (a ≡ scores1 f nb)
+      by true z = let q : None ≡ Some a = sym (scored_test true z) ∙ e in cc
+      by false z = let q : Some (scores1 f nb) ≡ Some a = sym (scored_test false z) ∙ e in (z, cc)

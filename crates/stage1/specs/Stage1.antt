@@ -1,7 +1,7 @@
 -- Stage 1 of the pitch analyser: which lags at 4 kHz go on to stage 2 (docs/SCOPE.md, Stages; pitch_analysis.rs, lines 201 to 290).
 -- f is the frame's 4 kHz signal, nb the subframe count, cx the complexity, thres1 the first threshold. A best is named by comparison (`best`, `silk_sort`): no search runs here.
 -- Definitions only.
-use Rattle.std.specs.Prelude.{◌≡◌, Bool, cond, List, [], ◌∷◌, ◌⊎◌, ℕ, ◌+◌, ◌-◌, ◌*◌, ◌/◌, ◌%◌, ◌≤◌, ◌<◌, eqb, ℤ, pos, ◌+ℤ◌, ◌-ℤ◌, ◌*ℤ◌, length, drop, replicate}
+use Rattle.std.specs.Prelude.{Result, Ok, Err, Option, ◌≡◌, Bool, cond, List, [], ◌∷◌, ◌⊎◌, ℕ, ◌+◌, ◌-◌, ◌*◌, ◌/◌, ◌%◌, ◌≤◌, ◌<◌, eqb, ℤ, pos, ◌+ℤ◌, ◌-ℤ◌, ◌*ℤ◌, length, drop, replicate}
 use Rattle.std.specs.Int.Signed.{lt_z, le_z}
 use Rattle.std.specs.Int.{w16, w32}
 use Rattle.zint.specs.Wrap.{wrap}
@@ -10,12 +10,11 @@ use Rattle.lists.specs.Fill.{tabulate, filled}
 use Rattle.best.specs.Best.{some, Place, none, at, first_from}
 use Rattle.silk_macros.specs.Macros.{smulwb, smlawb}
 use Rattle.silk_macros.specs.Divide.{quotient, by_zero, low16_of}
-use Rattle.silk_macros.specs.declared.Quotient.{Quotient}
 use Rattle.silk_sigproc.specs.Dot.{dot, energy_sum}
 use Rattle.silk_sort.specs.Rank.{ranked}
-use Rattle.stage1.specs.declared.Screen.{Screen}
-use Rattle.stage1.specs.declared.Screen.TheVariants.{ZeroDivisor, Unvoiced, Goes}
-use Rattle.stage1.specs.declared.Stage1.{Stage1}
+use Rattle.answers.specs.declared.NoPitch.{NoPitch}
+use Rattle.answers.specs.declared.NoPitch.TheVariants.{Unvoiced as HasNone, ZeroDivisor as ByZero}
+use Rattle.stage1.specs.declared.candidates.Candidates.{Candidates}
 
 -- ---- the lags 8 to 72 at 4 kHz
 
@@ -49,7 +48,7 @@ unfoldable pub divisor1 : List ℤ → ℕ → ℕ → ℤ
 divisor1 f h d = wrap w32 (divisor_sum1 f h d)
 
 -- the quotient at Q14, or a zero divisor
-unfoldable pub quotient1 : List ℤ → ℕ → ℕ → Quotient
+unfoldable pub quotient1 : List ℤ → ℕ → ℕ → Option ℤ
 quotient1 f h d = quotient (cross1 f h d) (divisor1 f h d) (pos 14)
 
 -- ---- the divisors by number, in the source's order: half-frames, and in each the lags 8 to 72 rising. All of them are reached
@@ -115,6 +114,18 @@ kept_count xs cx thres1 = place_or (search_length cx) (first_from 0 (search_leng
 
 -- ---- the answer
 
+-- whether the frame goes on
+pub data Screen : Type 0 where
+  ZeroDivisor : Screen
+  Unvoiced : Screen
+  Goes : Screen
+
+-- and the lags that go on, the first `count` of them, the best first; the other places are 0
+pub record Stage1 : Type 0 where
+  pub screen : Screen
+  pub lags : List ℕ
+  pub count : ℕ
+
 -- nothing goes on
 unfoldable pub stopped : Screen → Stage1
 stopped s = record { screen = s; lags = replicate 8 0; count = 0 }
@@ -127,6 +138,12 @@ screened xs cx thres1 =
 
 unfoldable pub stage1 : List ℤ → ℕ → ℕ → ℤ → Stage1
 stage1 f nb cx thres1 = cond (zero1 f nb) (stopped ZeroDivisor) (screened (scores1 f nb) cx thres1)
+
+-- the code's answer: the lags that go on, or why there is no pitch
+abbrev pub answer_of : Result Candidates NoPitch → Stage1
+answer_of (Ok c) = record { screen = Goes; lags = c.lags; count = c.count }
+answer_of (Err HasNone) = stopped Unvoiced
+answer_of (Err ByZero) = stopped ZeroDivisor
 
 -- which way it goes in numbers: 2 a zero divisor, 1 unvoiced, 0 goes on; and which of them comes
 abbrev pub screen_numbers : Screen → List ℤ

@@ -1,37 +1,33 @@
 -- What the functions of stage 1 say to one another. Nothing here is part of what stage 1 means. Definitions only; the laws are in `ScoreLaws` and `KeptLaws`.
-use Rattle.std.specs.Prelude.{◌≡◌, Bool, false, cond, List, ℕ, ◌+◌, ◌-◌, ℤ, pos, get_or, replicate}
+use Rattle.std.specs.Prelude.{Option, Some, None, Bool, cond, List, ℕ, ◌+◌, ◌-◌, ℤ, pos, get_or, replicate}
 use Rattle.std.specs.Int.Signed.{lt_z, le_z}
 use Rattle.lists.specs.Signal.{sample}
-use Rattle.lists.specs.Fill.{filled}
+use Rattle.lists.specs.Fill.{tabulate, filled}
 use Rattle.best.specs.Best.{some, first_from}
 use Rattle.silk_macros.specs.Macros.{smulwb}
 use Rattle.silk_macros.specs.Divide.{quotient, by_zero, low16_of}
-use Rattle.silk_macros.specs.declared.Quotient.{Quotient}
-use Rattle.stage1.specs.declared.Screen.TheVariants.{Unvoiced, Goes}
-use Rattle.stage1.specs.declared.Stage1.{Stage1}
-use Rattle.stage1.specs.Stage1.{quotient1, zero1, corr1, score1, place_or, stopped}
+use Rattle.stage1.specs.Stage1.{Unvoiced, Goes, Stage1, quotient1, zero1, corr1, scores1, place_or, stopped}
 
--- ---- the correlations: a loop that stops at a zero divisor has filled its array only where it has met none
+-- ---- the correlations
 
 -- the quotient of the i-th lag, from cross-correlations counted from the last lag and divisors counted from the first
-abbrev pub quotient_at : List ℤ → List ℤ → ℕ → Quotient
+abbrev pub quotient_at : List ℤ → List ℤ → ℕ → Option ℤ
 quotient_at xs ns i = quotient (sample xs (64 - i)) (sample ns i) (pos 14)
 
-pub record Divided (xs ns c₀ c : List ℤ) (zero : Bool) : Type 0 where
-  pub zero_is : zero ≡ some 65 (λ i. by_zero (quotient_at xs ns i))
-  pub array_is : zero ≡ false → c ≡ filled (λ i. low16_of (quotient_at xs ns i)) 65 c₀
+-- their low 16 bits, and none where a divisor is zero
+unfoldable pub quotients : List ℤ → List ℤ → Option (List ℤ)
+quotients xs ns = cond (some 65 (λ i. by_zero (quotient_at xs ns i))) None (Some (tabulate (λ i. low16_of (quotient_at xs ns i)) 65))
 
 -- a divisor of half-frame h is zero
 unfoldable pub zero_in : List ℤ → ℕ → Bool
 zero_in f h = some 65 (λ i. by_zero (quotient1 f h (8 + i)))
 
-pub record HalfFrame (f : List ℤ) (h : ℕ) (c₀ c : List ℤ) (zero : Bool) : Type 0 where
-  pub zero_is : zero ≡ zero_in f h
-  pub array_is : zero ≡ false → c ≡ filled (λ i. corr1 f h (8 + i)) 65 c₀
+-- the correlations of half-frame h, and the scores; none where a divisor is zero
+unfoldable pub half_frame : List ℤ → ℕ → Option (List ℤ)
+half_frame f h = cond (zero_in f h) None (Some (tabulate (λ i. corr1 f h (8 + i)) 65))
 
-pub record Scored (f : List ℤ) (nb : ℕ) (c₀ c : List ℤ) (zero : Bool) : Type 0 where
-  pub zero_is : zero ≡ zero1 f nb
-  pub array_is : zero ≡ false → c ≡ filled (λ i. score1 f nb (8 + i)) 65 c₀
+unfoldable pub scored : List ℤ → ℕ → Option (List ℤ)
+scored f nb = cond (zero1 f nb) None (Some (scores1 f nb))
 
 -- ---- the choice, from the arrays that the sort leaves
 

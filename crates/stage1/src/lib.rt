@@ -9,10 +9,15 @@ ghost use Rattle.answers.specs.Answer.{answer_numbers};
 ghost use Rattle.zint.specs.Wrap.{wrap};
 ghost use Rattle.lists.specs.Signal.{sample};
 ghost use Rattle.lists.specs.Fill.{tabulate, filled};
-ghost use Rattle.stage1.specs.Stage1.{cross1, divisor1, biased1, search_length, stopped, stage1, screen_numbers, screen_number, Handed1};
-ghost use Rattle.stage1.specs.Steps.{Divided, HalfFrame, Scored, count_above, selected};
+ghost use Rattle.stage1.specs.Stage1.{cross1, divisor1, biased1, search_length, answer_of, stage1, screen_numbers, screen_number, Handed1};
+ghost use Rattle.stage1.specs.Steps.{quotients, half_frame, scored, count_above, selected};
 
-use silk_macros::{Quotient, silk_div32_varq, silk_smlawb, silk_smulbb, silk_smulwb};
+mod candidates;
+
+use answers::NoPitch;
+pub use candidates::Candidates;
+use pitch_settings::Settings;
+use silk_macros::{silk_div32_varq, silk_smlawb, silk_smulbb, silk_smulwb};
 use silk_sigproc::{energy_of_40, silk_pitch_xcorr, square};
 use silk_sort::silk_insertion_sort_decreasing_int16;
 use zint::{as_i16, wrapping_add_i32};
@@ -27,22 +32,6 @@ const MIN_LAG_4KHZ: usize = 8;
 const MAX_LAG_4KHZ: usize = 72;
 
 const CSTRIDE_4KHZ: usize = MAX_LAG_4KHZ + 1 - MIN_LAG_4KHZ;
-
-// Whether the frame goes on.
-#[derive(Drop)]
-pub enum Screen {
-    ZeroDivisor,
-    Unvoiced,
-    Goes,
-}
-
-// What stage 1 answers: the first `count` of `lags` are the lags at 4 kHz that were kept, best first; the other places are 0.
-#[derive(Drop)]
-pub struct Stage1 {
-    pub screen: Screen,
-    pub lags: [usize; 8],
-    pub count: usize,
-}
 
 // Where half-frame h starts.
 fn target(h: usize) -> usize
@@ -105,29 +94,27 @@ fn normalizers(frame_4khz: &[i16], h: usize) -> [i32; 65]
     normalizers
 }
 
-// The quotients' low 16 bits, by lag; answers whether a divisor is zero, and stops there.
-fn quotients(xcorr32: &[i32], normalizers: &[i32], c: &mut [i16]) -> bool
-    requires { (65 ≤ length xcorr32.now) × ((65 ≤ length normalizers.now) × (65 ≤ length c.old)) }
-    ensures { Divided xcorr32.now normalizers.now c.old c.new result }
+// The quotients' low 16 bits, by lag; none where a divisor is zero.
+fn quotients(xcorr32: &[i32; 65], normalizers: &[i32; 65]) -> Option<[i16; 65]>
+    ensures { result ≡ quotients xcorr32.now normalizers.now }
 {
+    let mut c = [0i16; CSTRIDE_4KHZ];
     for i in 0..CSTRIDE_4KHZ {
         let cross_corr = xcorr32[MAX_LAG_4KHZ - MIN_LAG_4KHZ - i];
-        let Quotient::Value(q) = silk_div32_varq(cross_corr, normalizers[i], 14) else {
-            return true;
-        };
+        let q = silk_div32_varq(cross_corr, normalizers[i], 14)?;
         c[i] = as_i16(q);
     }
-    false
+    Some(c)
 }
 
-// The correlations of half-frame h, by lag; answers whether a divisor is zero.
-fn half_frame(frame_4khz: &[i16], h: usize, c: &mut [i16]) -> bool
-    requires { (h < 2) × ((120 + 40 * h ≤ length frame_4khz.now) × (65 ≤ length c.old)) }
-    ensures { HalfFrame frame_4khz.now h c.old c.new result }
+// The correlations of half-frame h, by lag; none where a divisor is zero.
+fn half_frame(frame_4khz: &[i16], h: usize) -> Option<[i16; 65]>
+    requires { (h < 2) × (120 + 40 * h ≤ length frame_4khz.now) }
+    ensures { result ≡ half_frame frame_4khz.now h }
 {
     let xcorr32 = cross_correlations(frame_4khz, h);
     let normalizers = normalizers(frame_4khz, h);
-    quotients(&xcorr32, &normalizers, c)
+    quotients(&xcorr32, &normalizers)
 }
 
 // A lag's score: the summed correlation, marked down for the lag.
@@ -139,35 +126,28 @@ fn biased(sum: i32, lag: usize) -> i16
 }
 
 // The scores from the correlations of two half-frames.
-fn combine(first: &[i16], second: &[i16], c_combined: &mut [i16])
-    requires { (65 ≤ length first.now) × ((65 ≤ length second.now) × (65 ≤ length c_combined.old)) }
-    ensures { c_combined.new ≡ filled (λ (i : ℕ). biased1 (sample first.now i +ℤ sample second.now i) (8 + i)) 65 c_combined.old }
+fn combine(first: &[i16; 65], second: &[i16; 65]) -> [i16; 65]
+    ensures { result ≡ tabulate (λ (i : ℕ). biased1 (sample first.now i +ℤ sample second.now i) (8 + i)) 65 }
 {
+    let mut c_combined = [0i16; CSTRIDE_4KHZ];
     for i in 0..CSTRIDE_4KHZ {
         let sum = first[i] as i32 + second[i] as i32;
         c_combined[i] = biased(sum, MIN_LAG_4KHZ + i);
     }
+    c_combined
 }
 
-// The scores of all lags; answers whether a divisor is zero.
-fn scores(frame_4khz: &[i16], nb_subfr: usize, c_combined: &mut [i16]) -> bool
-    requires { ((nb_subfr ≡ 2) ⊎ (nb_subfr ≡ 4)) × (((20 + 5 * nb_subfr) * 4 ≤ length frame_4khz.now) × (65 ≤ length c_combined.old)) }
-    ensures { Scored frame_4khz.now nb_subfr c_combined.old c_combined.new result }
+// The scores of all lags; none where a divisor is zero. The only half-frame of two subframes counts twice.
+fn scores(frame_4khz: &[i16], nb_subfr: usize) -> Option<[i16; 65]>
+    requires { ((nb_subfr ≡ 2) ⊎ (nb_subfr ≡ 4)) × ((20 + 5 * nb_subfr) * 4 ≤ length frame_4khz.now) }
+    ensures { result ≡ scored frame_4khz.now nb_subfr }
 {
-    let mut first = [0i16; CSTRIDE_4KHZ];
-    if half_frame(frame_4khz, 0, &mut first) {
-        return true;
-    }
+    let first = half_frame(frame_4khz, 0)?;
     if nb_subfr != 4 {
-        combine(&first, &first, c_combined);
-        return false;
+        return Some(combine(&first, &first));
     }
-    let mut second = [0i16; CSTRIDE_4KHZ];
-    if half_frame(frame_4khz, 1, &mut second) {
-        return true;
-    }
-    combine(&first, &second, c_combined);
-    false
+    let second = half_frame(frame_4khz, 1)?;
+    Some(combine(&first, &second))
 }
 
 // How many places of the ranking are searched.
@@ -204,53 +184,35 @@ fn lags_of(d_srch: &[usize], count: usize) -> [usize; 8]
     lags
 }
 
-// The answer of a frame that does not go on.
-fn stop(screen: Screen) -> Stage1
-    ensures { result ≡ stopped screen }
-{
-    Stage1 {
-        screen: screen,
-        lags: [0; 8],
-        count: 0,
-    }
-}
-
 // The answer from the sorted scores and their indices, of which the first n are searched.
-fn select(c_combined: &[i16], d_srch: &[usize], n: usize, search_thres1_q16: i32) -> Stage1
+fn select(
+    c_combined: &[i16],
+    d_srch: &[usize],
+    n: usize,
+    search_thres1_q16: i32,
+) -> Result<Candidates, NoPitch>
     requires { (0 < n) × ((n ≤ 8) × ((n ≤ length c_combined.now) × ((n ≤ length d_srch.now) × ((i : ℕ) → i < n → get_or d_srch.now i 0 < 65)))) }
-    ensures { result ≡ selected c_combined.now d_srch.now n search_thres1_q16 }
+    ensures { answer_of result ≡ selected c_combined.now d_srch.now n search_thres1_q16 }
 {
     let best = c_combined[0] as i32;
     if best < 3277 {
-        return stop(Screen::Unvoiced);
+        return Err(NoPitch::Unvoiced);
     }
     let threshold = silk_smulwb(search_thres1_q16, best);
     let count = run_above(c_combined, n, threshold);
     let lags = lags_of(d_srch, count);
-    Stage1 {
-        screen: Screen::Goes,
-        lags: lags,
-        count: count,
-    }
+    Ok(Candidates { lags, count })
 }
 
 // Stage 1: the lags that go on, or that the frame is unvoiced, or a zero divisor.
-pub fn search_stage1(
-    frame_4khz: &[i16],
-    nb_subfr: usize,
-    complexity: usize,
-    search_thres1_q16: i32,
-) -> Stage1
-    requires { Handed1 frame_4khz.now nb_subfr complexity }
-    ensures value { result ≡ stage1 frame_4khz.now nb_subfr complexity search_thres1_q16 }
-    ensures screen_value { screen_numbers result.screen ≡ answer_numbers (screen_number frame_4khz.now nb_subfr) [] }
+pub fn search_stage1(frame_4khz: &[i16], s: Settings) -> Result<Candidates, NoPitch>
+    requires { Handed1 frame_4khz.now s.nb s.complexity }
+    ensures value { answer_of result ≡ stage1 frame_4khz.now s.nb s.complexity s.thres1 }
+    ensures screen_number { screen_numbers (answer_of result).screen ≡ answer_numbers (screen_number frame_4khz.now s.nb) [] }
 {
-    let mut c_combined = [0i16; CSTRIDE_4KHZ];
-    if scores(frame_4khz, nb_subfr, &mut c_combined) {
-        return stop(Screen::ZeroDivisor);
-    }
+    let mut c_combined = scores(frame_4khz, s.nb).ok_or(NoPitch::ZeroDivisor)?;
     let mut d_srch = [0usize; 8];
-    let length_d_srch = search_length(complexity);
+    let length_d_srch = search_length(s.complexity);
     silk_insertion_sort_decreasing_int16(&mut c_combined, &mut d_srch, CSTRIDE_4KHZ, length_d_srch);
-    select(&c_combined, &d_srch, length_d_srch, search_thres1_q16)
+    select(&c_combined, &d_srch, length_d_srch, s.thres1)
 }

@@ -4,10 +4,8 @@ use Rattle.std.specs.Prelude.{◌≡◌, List, ℕ, ◌<◌, ℤ, pos, ◌*ℤ�
 use Rattle.std.specs.Int.Signed.{quot_z}
 use Rattle.stage2_correlations.specs.Meaning.{Listed, Measured}
 use Rattle.stage2_correlations.specs.Correlations.{cross2, divisor2}
-use Rattle.stage2.specs.declared.Stage2.{Stage2}
-use Rattle.stage2.specs.declared.Stage2.TheVariants.{ZeroDivisor, Unvoiced, Winner}
+use Rattle.stage2.specs.Stage2.{Stage2, ZeroDivisor, Unvoiced, Winner, search_of}
 use Rattle.stage2.specs.Scores.{contour_sum, lag_sum, Search2, score2}
-use Rattle.stage2.specs.Stage2.{search_of}
 
 -- a divisor is reached, and it is zero: a lag that is measured, and a positive cross-correlation
 pub record ZeroReached2 (e : List ℤ) (kept : List ℕ) (nb k d : ℕ) : Type 0 where

@@ -23,10 +23,8 @@ use Rattle.stage2_correlations.specs.Marks.{listed, measured}
 use Rattle.stage2_correlations.specs.MeaningLaws.{listed_means, measured_means}
 use Rattle.stage2_correlations.specs.Correlations.{cross2, divisor2, quotient2, zero_reached2, zero2}
 use Rattle.stage2_correlations.specs.RowLaws.{zero_in2, zero2_subframes}
-use Rattle.stage2.specs.declared.Stage2.{Stage2}
-use Rattle.stage2.specs.declared.Stage2.TheVariants.{ZeroDivisor, Unvoiced, Winner}
+use Rattle.stage2.specs.Stage2.{Stage2, ZeroDivisor, Unvoiced, Winner, winner, won, picked, search_of, stage2}
 use Rattle.stage2.specs.Scores.{contour_sum, place_no, best_contour, lag_sum, Search2, passes2, score2}
-use Rattle.stage2.specs.Stage2.{winner, won, picked, search_of, stage2}
 use Rattle.stage2.specs.Meaning.{ZeroReached2, NoZero2, FirstContour, Passes, Wins, Meaning2}
 
 -- ---- a lag's sum is that of its first contour of greatest sum

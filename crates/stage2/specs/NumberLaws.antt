@@ -6,10 +6,8 @@ use Rattle.std.proofs.Math.Bool.{true, false}
 use Rattle.answers.specs.Answer.{answer_numbers}
 use Rattle.best.specs.Best.{Place, none, at}
 use Rattle.stage2_correlations.specs.Correlations.{zero2}
-use Rattle.stage2.specs.declared.Stage2.{Stage2}
-use Rattle.stage2.specs.declared.Stage2.TheVariants.{ZeroDivisor}
+use Rattle.stage2.specs.Stage2.{Stage2, ZeroDivisor, winner, won, picked, search_of, stage2, stage2_numbers, won_verdict, won_values, stage2_verdict, stage2_values}
 use Rattle.stage2.specs.Scores.{Search2}
-use Rattle.stage2.specs.Stage2.{winner, won, picked, search_of, stage2, stage2_numbers, won_verdict, won_values, stage2_verdict, stage2_values}
 
 module _ (e : List ℤ) (kept : List ℕ) (fs nb cx : ℕ) (thres2 prev corr : ℤ) where
   abbrev s : Search2

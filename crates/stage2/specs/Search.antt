@@ -1,16 +1,15 @@
 -- What the functions of stage 2 say to one another: the search from the front, as the code goes. Nothing here is part of what stage 2 means. Definitions only; the laws are in
 -- `SearchLaws`.
-use Rattle.std.specs.Prelude.{◌≡◌, ◌&&◌, cond, List, [], ◌⊎◌, ℕ, ◌-◌, ◌<◌, ◌≤◌, eqb, ℤ, pos, nat_abs, ◌*ℤ◌, get_or}
+use Rattle.std.specs.Prelude.{Option, Some, None, ◌≡◌, ◌&&◌, cond, List, [], ◌⊎◌, ℕ, ◌-◌, ◌<◌, ◌≤◌, ℤ, pos, nat_abs, ◌*ℤ◌, get_or}
 use Rattle.std.specs.Int.Signed.{lt_z, quot_z}
+use Rattle.zint.specs.Minus.{minus}
 use Rattle.silk_tables.specs.Tables.{entries2, contours2}
 use Rattle.stage2_correlations.specs.Marks.{Kept, listed}
-use Rattle.stage2.specs.declared.Stage2.{Stage2}
-use Rattle.stage2.specs.declared.Stage2.TheVariants.{Unvoiced, Winner}
+use Rattle.stage2.specs.Stage2.{Stage2, Unvoiced, Winner, picked}
 use Rattle.stage2.specs.declared.Along.{Along}
 use Rattle.stage2.specs.declared.BestLag.{BestLag}
 use Rattle.stage2.specs.declared.LagSearch.{LagSearch}
 use Rattle.stage2.specs.Scores.{best_contour, lag_sum, Search2, threshold2, prev_8khz, score2}
-use Rattle.stage2.specs.Stage2.{picked}
 
 -- ---- what is handed over
 
@@ -46,7 +45,7 @@ pub record ContoursTried (by : LagSearch) : Type 0 where
 -- what the search goes by, from the settings and the previous lag and correlation; and the search itself, in an array of correlations
 abbrev pub lag_search : ℕ → ℕ → ℕ → ℤ → ℤ → ℤ → LagSearch
 lag_search fs nb cx thres2 prev corr =
-    record { nb = nb; contours = contours2 fs nb cx; thres = threshold2 nb thres2; prev = prev_8khz fs prev; corr = corr }
+    record { nb = nb; contours = contours2 fs nb cx; thres = threshold2 nb thres2; prev = record { lag = prev_8khz fs prev; correlation = corr } }
 
 abbrev pub search_in : List (List ℤ) → List ℕ → LagSearch → Search2
 search_in c kept by =
@@ -56,8 +55,8 @@ search_in c kept by =
       subframes = by.nb;
       contours = by.contours;
       threshold = by.thres;
-      prev_lag = by.prev;
-      prev_corr = by.corr;
+      prev_lag = by.prev.lag;
+      prev_corr = by.prev.correlation;
     }
 
 -- ---- what is answered
@@ -66,22 +65,32 @@ search_in c kept by =
 unfoldable pub along : (ℕ → ℕ → ℤ) → ℕ → ℕ → ℕ → Along
 along c nb m d = record { cc = lag_sum c nb m d; contour = best_contour c nb m d }
 
+-- the score of the best lag so far, that of no lag, and its sum
+abbrev pub top_of : Option BestLag → ℤ
+top_of (Some b) = b.top
+top_of None = minus 2147483648
+
+abbrev pub sum_of : Option BestLag → ℤ
+sum_of (Some b) = b.cc
+sum_of None = pos 0
+
 -- the best lag so far, with one lag more, of which the sum, the contour and the score are known
-unfoldable pub considered : BestLag → ℕ → ℤ → ℕ → ℤ → ℤ → BestLag
-considered b d cc j score thres = cond (lt_z thres cc && lt_z b.top score) (record { top = score; cc = cc; lag = d; contour = j }) b
+unfoldable pub considered : Option BestLag → ℕ → ℤ → ℕ → ℤ → ℤ → Option BestLag
+considered b d cc j score thres = cond (lt_z thres cc && lt_z (top_of b) score) (Some (record { top = score; cc = cc; lag = d; contour = j })) b
 
 -- the same with the lag d, which counts where it is listed
-unfoldable pub best_with : Search2 → ℕ → BestLag → BestLag
+unfoldable pub best_with : Search2 → ℕ → Option BestLag → Option BestLag
 best_with s d b =
     cond (listed s.kept d)
     (considered b d (lag_sum s.correlations s.subframes s.contours d) (best_contour s.correlations s.subframes s.contours d) (score2 s d) s.threshold)
     b
 
--- the answer from the best of all lags; there is none where its lag is 0
-unfoldable pub best_answer : ℕ → BestLag → Stage2
-best_answer nb b = cond (eqb b.lag 0) Unvoiced (Winner b.lag b.contour (quot_z b.cc (pos nb) *ℤ pos 4))
+-- the answer from the best of all lags
+abbrev pub best_answer : ℕ → Option BestLag → Stage2
+best_answer nb (Some b) = Winner b.lag b.contour (quot_z b.cc (pos nb) *ℤ pos 4)
+best_answer nb None = Unvoiced
 
 -- the best of all lags: its answer is the search's, and its sum is small
-pub record BestOfAll (s : Search2) (b : BestLag) : Type 0 where
+pub record BestOfAll (s : Search2) (b : Option BestLag) : Type 0 where
   pub answer : best_answer s.subframes b ≡ picked s
-  pub small : nat_abs b.cc ≤ 131072
+  pub small : nat_abs (sum_of b) ≤ 131072

@@ -1,7 +1,7 @@
 -- Laws of the search from the front: a lag's contours, one lag more, what is known after n lags, and the array of the correlations.
-use Rattle.std.specs.Prelude.{◌≡◌, Bool, List, [], ℕ, ◌+◌, ◌-◌, ◌<◌, ◌≤◌, ℤ, negsuc, nat_abs, ◌*ℤ◌, get_or, replicate, ◌≤ℤ◌, ◌<ℤ◌}
-use Rattle.std.proofs.Math.Path.{refl, sym, ap, subst}
-use Rattle.std.proofs.Common.{ap₂, ◌∙◌, subst₂, arith, eq-eqb, ne_eqb}
+use Rattle.std.specs.Prelude.{Option, Some, None, ◌≡◌, Bool, List, [], ℕ, ◌+◌, ◌-◌, ◌<◌, ◌≤◌, ℤ, negsuc, nat_abs, ◌*ℤ◌, get_or, replicate, ◌≤ℤ◌, ◌<ℤ◌}
+use Rattle.std.proofs.Math.Path.{refl, sym, ap}
+use Rattle.std.proofs.Common.{ap₂, ◌∙◌, subst₂, arith}
 use Rattle.std.proofs.Math.Bool.{true, false, ◌&&◌, cond}
 use Rattle.std.proofs.Math.IntN.{pos}
 use Rattle.std.specs.Int.Signed.{lt_z, quot_z}
@@ -15,12 +15,11 @@ use Rattle.lists.specs.FillLaws.{get_d_tabulate, get_or-filled}
 use Rattle.stage2_correlations.specs.Marks.{listed}
 use Rattle.stage2_correlations.specs.Correlations.{correlation2}
 use Rattle.stage2_correlations.specs.RowLaws.{correlation_small, zero_in2, zero2_subframes}
-use Rattle.stage2.specs.declared.Stage2.TheVariants.{ZeroDivisor, Unvoiced, Winner}
+use Rattle.stage2.specs.Stage2.{ZeroDivisor, Winner, winner, won, picked, search_by, search_of, stage2}
 use Rattle.stage2.specs.declared.BestLag.{BestLag}
 use Rattle.stage2.specs.Scores.{contour_sum, best_contour, lag_sum, Search2, passes2, score2}
 use Rattle.stage2.specs.ScoreLaws.{contour_is, Agree, with_correlations, lag_small, score_above, best_contour_ext, lag_sum_ext, passes_ext, score_ext}
-use Rattle.stage2.specs.Stage2.{winner, won, picked, search_by, search_of, stage2}
-use Rattle.stage2.specs.Search.{at2, SixteenBits, along, considered, best_with, best_answer, BestOfAll}
+use Rattle.stage2.specs.Search.{at2, SixteenBits, along, top_of, sum_of, considered, best_with, best_answer, BestOfAll}
 
 -- the first n contours: j is best, and top its sum
 module _ (c : ℕ → ℕ → ℤ) (nb d : ℕ) where
@@ -46,24 +45,24 @@ module _ (c : ℕ → ℕ → ℤ) (nb d : ℕ) where
 
 -- ---- one lag more
 
-module _ (b : BestLag) (d : ℕ) (cc : ℤ) (j : ℕ) (s thres : ℤ) where
-  abbrev taken : Bool → Bool → BestLag
-  taken t u = cond (t && u) (record { top = s; cc = cc; lag = d; contour = j }) b
+module _ (b : Option BestLag) (d : ℕ) (cc : ℤ) (j : ℕ) (s thres : ℤ) where
+  abbrev taken : Bool → Bool → Option BestLag
+  taken t u = cond (t && u) (Some (record { top = s; cc = cc; lag = d; contour = j })) b
 
-  pub takes : lt_z thres cc ≡ true → lt_z b.top s ≡ true → record { top = s; cc = cc; lag = d; contour = j } ≡ considered b d cc j s thres
+  pub takes : lt_z thres cc ≡ true → lt_z (top_of b) s ≡ true → Some (record { top = s; cc = cc; lag = d; contour = j }) ≡ considered b d cc j s thres
   unfolding considered
   takes e f = sym (ap₂ taken e f)
 
-  pub keeps : lt_z thres cc ≡ true → lt_z b.top s ≡ false → b ≡ considered b d cc j s thres
+  pub keeps : lt_z thres cc ≡ true → lt_z (top_of b) s ≡ false → b ≡ considered b d cc j s thres
   unfolding considered
   keeps e f = sym (ap₂ taken e f)
 
   pub fails : lt_z thres cc ≡ false → b ≡ considered b d cc j s thres
   unfolding considered
-  fails e = sym (ap (λ (t : Bool). taken t (lt_z b.top s)) e)
+  fails e = sym (ap (λ (t : Bool). taken t (lt_z (top_of b) s)) e)
 
-module _ (s : Search2) (d : ℕ) (b : BestLag) where
-  abbrev with_it : BestLag
+module _ (s : Search2) (d : ℕ) (b : Option BestLag) where
+  abbrev with_it : Option BestLag
   with_it = considered b d (lag_sum s.correlations s.subframes s.contours d) (best_contour s.correlations s.subframes s.contours d) (score2 s d) s.threshold
 
   pub with_listed : listed s.kept d ≡ true → with_it ≡ best_with s d b
@@ -77,25 +76,18 @@ module _ (s : Search2) (d : ℕ) (b : BestLag) where
 -- ---- after n lags
 
 module _ (s : Search2) where
-  pub record AfterLags (n : ℕ) (b : BestLag) : Type 0 where
+  pub record AfterLags (n : ℕ) (b : Option BestLag) : Type 0 where
     pub place : Place
-    pub state : laws.Search (negsuc 2147483647) (λ p. passes2 s (16 + p)) (λ p. score2 s (16 + p)) n b.top place
+    pub state : laws.Search (negsuc 2147483647) (λ p. passes2 s (16 + p)) (λ p. score2 s (16 + p)) n (top_of b) place
     pub answer : won s place ≡ best_answer s.subframes b
-    pub small : nat_abs b.cc ≤ 131072
+    pub small : nat_abs (sum_of b) ≤ 131072
 
   -- before the first lag
-  pub after_none : (b : BestLag) → b.top ≡ negsuc 2147483647 → b.cc ≡ pos 0 → b.lag ≡ 0 → AfterLags 0 b
-  unfolding best_answer
-  after_none b e f g =
-      record {
-        place = none;
-        state = subst (λ (t : ℤ). laws.Search (negsuc 2147483647) (λ p. passes2 s (16 + p)) (λ p. score2 s (16 + p)) 0 t none) (sym e) laws.search_start;
-        answer = sym (ap (λ (t : Bool). cond t Unvoiced (Winner b.lag b.contour (quot_z b.cc (pos s.subframes) *ℤ pos 4))) (eq-eqb b.lag 0 g));
-        small = rw f (omega arith);
-      }
+  pub after_none : AfterLags 0 None
+  after_none = record { place = none; state = laws.search_start; answer = refl; small = omega arith }
 
   -- one lag more
-  module _ (n : ℕ) (b : BestLag) (u : AfterLags n b) (small : SixteenBits s.correlations s.subframes) (f : s.subframes ≤ 4) (h : n < 128) where
+  module _ (n : ℕ) (b : Option BestLag) (u : AfterLags n b) (small : SixteenBits s.correlations s.subframes) (f : s.subframes ≤ 4) (h : n < 128) where
     abbrev d : ℕ
     d = 16 + n
 
@@ -108,27 +100,26 @@ module _ (s : Search2) where
     abbrev fresh : BestLag
     fresh = record { top = score2 s d; cc = total; lag = d; contour = best_contour s.correlations s.subframes s.contours d }
 
-    better : passes2 s d ≡ true → lt_z b.top (score2 s d) ≡ true → AfterLags (n + 1) fresh
-    unfolding best_answer
+    better : passes2 s d ≡ true → lt_z (top_of b) (score2 s d) ≡ true → AfterLags (n + 1) (Some fresh)
     better e l =
         record {
           place = at n;
-          state = laws.search_better u.state e (lt_true b.top (score2 s d) l);
-          answer = sym (ap (λ (t : Bool). cond t Unvoiced (won s (at n))) (ne_eqb d 0 (λ z. omega arith)));
+          state = laws.search_better u.state e (lt_true (top_of b) (score2 s d) l);
+          answer = refl;
           small = lag_small s.correlations s.subframes d small (omega arith) (omega arith) s.contours f;
         }
 
-    not_better : lt_z b.top (score2 s d) ≡ false → AfterLags (n + 1) b
+    not_better : lt_z (top_of b) (score2 s d) ≡ false → AfterLags (n + 1) b
     not_better l =
         record {
           place = u.place;
-          state = laws.search_kept u.state (score_above s d small f (omega arith) (omega arith)) (lt_false b.top (score2 s d) l);
+          state = laws.search_kept u.state (score_above s d small f (omega arith) (omega arith)) (lt_false (top_of b) (score2 s d) l);
           answer = u.answer;
           small = u.small;
         }
 
-    by_tests : (p q r : Bool) → listed s.kept d ≡ p → lt_z s.threshold total ≡ q → lt_z b.top (score2 s d) ≡ r
-        → AfterLags (n + 1) (cond p (cond (q && r) fresh b) b)
+    by_tests : (p q r : Bool) → listed s.kept d ≡ p → lt_z s.threshold total ≡ q → lt_z (top_of b) (score2 s d) ≡ r
+        → AfterLags (n + 1) (cond p (cond (q && r) (Some fresh) b) b)
     unfolding passes2
     by_tests false q r ep eq er = kept_so (ap (λ (t : Bool). t && lt_z s.threshold total) ep)
     by_tests true false r ep eq er = kept_so (ap₂ ◌&&◌ ep eq)
@@ -137,10 +128,10 @@ module _ (s : Search2) where
 
     pub after_next : AfterLags (n + 1) (best_with s d b)
     unfolding best_with considered
-    after_next = by_tests (listed s.kept d) (lt_z s.threshold total) (lt_z b.top (score2 s d)) refl refl refl
+    after_next = by_tests (listed s.kept d) (lt_z s.threshold total) (lt_z (top_of b) (score2 s d)) refl refl refl
 
   -- after all lags
-  pub after_all : (b : BestLag) → AfterLags 128 b → BestOfAll s b
+  pub after_all : (b : Option BestLag) → AfterLags 128 b → BestOfAll s b
   unfolding picked winner
   after_all b u = record { answer = sym (ap (won s) (laws.search_best u.state) ∙ u.answer); small = u.small }
 

@@ -1,14 +1,27 @@
 -- Stage 2 of the pitch analyser: what it answers for the 8 kHz signal e and the lags kept by stage 1, at the rate fs, with nb subframes, the complexity cx, the second
 -- threshold, and the previous lag and correlation. Definitions only.
-use Rattle.std.specs.Prelude.{◌≡◌, cond, List, [], ◌∷◌, ◌⊎◌, ℕ, ◌+◌, ◌*◌, ◌≤◌, ◌<◌, ℤ, pos, ◌*ℤ◌, length}
+use Rattle.std.specs.Prelude.{Result, Ok, Err, ◌≡◌, cond, List, [], ◌∷◌, ◌⊎◌, ℕ, ◌+◌, ◌*◌, ◌≤◌, ◌<◌, ℤ, pos, ◌*ℤ◌, length}
 use Rattle.std.specs.Int.Signed.{quot_z}
 use Rattle.best.specs.Best.{Place, none, at, best}
 use Rattle.silk_tables.specs.Tables.{contours2}
 use Rattle.stage2_correlations.specs.Marks.{Kept}
 use Rattle.stage2_correlations.specs.Correlations.{correlation2, zero2}
-use Rattle.stage2.specs.declared.Stage2.{Stage2}
-use Rattle.stage2.specs.declared.Stage2.TheVariants.{ZeroDivisor, Unvoiced, Winner}
+use Rattle.answers.specs.declared.NoPitch.{NoPitch}
+use Rattle.answers.specs.declared.NoPitch.TheVariants.{Unvoiced as HasNone, ZeroDivisor as ByZero}
+use Rattle.stage2.specs.declared.Chosen.{Chosen}
 use Rattle.stage2.specs.Scores.{best_contour, lag_sum, Search2, threshold2, passes2, prev_8khz, score2}
+
+-- what stage 2 answers: a zero divisor was reached, no lag passes, or the winner's lag, its contour and its correlation
+pub data Stage2 : Type 0 where
+  ZeroDivisor : Stage2
+  Unvoiced : Stage2
+  Winner : ℕ → ℕ → ℤ → Stage2
+
+-- the code's answer: the winner, or why there is no pitch
+abbrev pub answer_of : Result Chosen NoPitch → Stage2
+answer_of (Ok c) = Winner c.lag c.contour c.correlation
+answer_of (Err HasNone) = Unvoiced
+answer_of (Err ByZero) = ZeroDivisor
 
 -- the passing lag with the highest biased score wins, of equals the lowest: the place p stands for the lag 16 + p, up to 143
 unfoldable pub winner : Search2 → Place

@@ -8,25 +8,23 @@ ghost use Rattle.answers.specs.Answer.{answer_numbers};
 ghost use Rattle.silk_tables.specs.Tables.{entries2};
 ghost use Rattle.stage2_correlations.specs.Marks.{Kept};
 ghost use Rattle.stage2.specs.Scores.{contour_sum, prev_8khz, distance, prev_bias, biased2};
-ghost use Rattle.stage2.specs.Stage2.{stage2, stage2_numbers, stage2_verdict, stage2_values, Handed2};
-ghost use Rattle.stage2.specs.Search.{at2, HandedLag, HandedSearch, ContoursTried, along, considered, lag_search, search_in, best_with, best_answer, BestOfAll};
+ghost use Rattle.stage2.specs.Stage2.{answer_of, stage2, stage2_numbers, stage2_verdict, stage2_values, Handed2};
+ghost use Rattle.stage2.specs.Search.{at2, HandedLag, HandedSearch, ContoursTried, along, top_of, sum_of, considered, lag_search, search_in, best_with, best_answer, BestOfAll};
 
+use answers::NoPitch;
+use pitch_settings::Settings;
 use silk_macros::{
     silk_div32, silk_div32_16, silk_lin2log, silk_lshift, silk_mul, silk_rshift, silk_smulbb,
 };
 use silk_tables::{lag_cb_stage2, nb_cbk_search_stage2};
 use stage2_correlations::{is_listed, measured_lags, subframe_row};
 
-// What stage 2 answers: a zero divisor was reached, no lag passes, or the winner's lag at 8 kHz, its contour and its correlation at Q15.
-#[derive(Drop)]
-pub enum Stage2 {
-    ZeroDivisor,
-    Unvoiced,
-    Winner {
-        lag: usize,
-        contour: usize,
-        correlation: i32,
-    },
+// The winner's lag at 8 kHz, its contour and its correlation at Q15.
+#[derive(Clone, Copy)]
+pub struct Chosen {
+    pub lag: usize,
+    pub contour: usize,
+    pub correlation: i32,
 }
 
 // A lag's best contour and the sum along it.
@@ -36,13 +34,20 @@ pub struct Along {
     pub contour: usize,
 }
 
-// The best passing lag so far, its score, sum and contour; the lag is 0 before the first.
-#[derive(Drop)]
+// The best passing lag so far, its score, sum and contour.
+#[derive(Clone, Copy)]
 pub struct BestLag {
     pub top: i32,
     pub cc: i32,
     pub lag: usize,
     pub contour: usize,
+}
+
+// The lag and the correlation of the frame before.
+#[derive(Clone, Copy)]
+pub struct Previous {
+    pub lag: i32,
+    pub correlation: i32,
 }
 
 // What the search goes by besides the correlations and the kept lags: how many subframes there are and how many contours are tried, what a lag's sum has to be above, and the
@@ -52,8 +57,7 @@ pub struct LagSearch {
     pub nb: usize,
     pub contours: usize,
     pub thres: i32,
-    pub prev: i32,
-    pub corr: i32,
+    pub prev: Previous,
 }
 
 // The correlations along contour j of the lag d, added up over the subframes.
@@ -143,19 +147,36 @@ fn biased_score(cc: i32, nb_subfr: usize, d: usize, prev_lag_8khz: i32, prev_cor
     }
 }
 
+// The score that the next lag has to be above.
+fn top_of(best: Option<BestLag>) -> i32
+    ensures { result ≡ top_of best }
+{
+    match best {
+        Some(b) => b.top,
+        None => -2147483648,
+    }
+}
+
 // One lag more.
-fn consider(best: BestLag, d: usize, cc: i32, contour: usize, score: i32, thres: i32) -> BestLag
+fn consider(
+    best: Option<BestLag>,
+    d: usize,
+    cc: i32,
+    contour: usize,
+    score: i32,
+    thres: i32,
+) -> Option<BestLag>
     ensures { result ≡ considered best d cc contour score thres }
 {
-    let top = best.top;
+    let top = top_of(best);
     if cc > thres {
         if score > top {
-            return BestLag {
+            return Some(BestLag {
                 top: score,
                 cc: cc,
                 lag: d,
                 contour: contour,
-            };
+            });
         }
     }
     best
@@ -163,12 +184,12 @@ fn consider(best: BestLag, d: usize, cc: i32, contour: usize, score: i32, thres:
 
 // The lag d, where it is listed.
 fn try_lag(
-    best: BestLag,
+    best: Option<BestLag>,
     c_8khz: &[[i16; 132]; 4],
     kept: &[usize],
     by: LagSearch,
     d: usize,
-) -> BestLag
+) -> Option<BestLag>
     requires handed_lag { HandedLag c_8khz.now by.nb d × ContoursTried by }
     requires kept { Kept kept.now }
     ensures { result ≡ best_with (search_in c_8khz.now kept.now by) d best }
@@ -176,7 +197,7 @@ fn try_lag(
     if is_listed(kept, d) {
         let found = best_contour(c_8khz, by.nb, by.contours, d);
         let cc = found.cc;
-        let score = biased_score(cc, by.nb, d, by.prev, by.corr);
+        let score = biased_score(cc, by.nb, d, by.prev.lag, by.prev.correlation);
         consider(best, d, cc, found.contour, score, by.thres)
     } else {
         best
@@ -184,16 +205,11 @@ fn try_lag(
 }
 
 // The lags 16 to 143, rising.
-fn pick_lag(c_8khz: &[[i16; 132]; 4], kept: &[usize], by: LagSearch) -> BestLag
+fn pick_lag(c_8khz: &[[i16; 132]; 4], kept: &[usize], by: LagSearch) -> Option<BestLag>
     requires { HandedSearch c_8khz.now kept.now by.nb × ContoursTried by }
     ensures { BestOfAll (search_in c_8khz.now kept.now by) result }
 {
-    let mut best = BestLag {
-        top: -2147483648,
-        cc: 0,
-        lag: 0,
-        contour: 0,
-    };
+    let mut best = None;
     for d in 16..144 {
         best = try_lag(best, c_8khz, kept, by, d);
     }
@@ -201,75 +217,52 @@ fn pick_lag(c_8khz: &[[i16; 132]; 4], kept: &[usize], by: LagSearch) -> BestLag
 }
 
 // The answer of the search.
-fn answer(best: BestLag, nb_subfr: usize) -> Stage2
-    requires { (nat_abs best.cc ≤ 131072) × ((2 ≤ nb_subfr) × (nb_subfr ≤ 4)) }
-    ensures { result ≡ best_answer nb_subfr best }
+fn answer(best: Option<BestLag>, nb_subfr: usize) -> Result<Chosen, NoPitch>
+    requires { (nat_abs (sum_of best) ≤ 131072) × ((2 ≤ nb_subfr) × (nb_subfr ≤ 4)) }
+    ensures { answer_of result ≡ best_answer nb_subfr best }
 {
-    let lag = best.lag;
-    if lag == 0 {
-        return Stage2::Unvoiced;
-    }
-    let cc = best.cc;
-    Stage2::Winner {
-        lag: lag,
-        contour: best.contour,
-        correlation: silk_lshift(silk_div32_16(cc, nb_subfr as i32), 2),
-    }
+    let won = best.ok_or(NoPitch::Unvoiced)?;
+    Ok(Chosen {
+        lag: won.lag,
+        contour: won.contour,
+        correlation: silk_lshift(silk_div32_16(won.cc, nb_subfr as i32), 2),
+    })
 }
 
 // What the search goes by, from the settings and the previous lag and correlation.
-fn lag_search(
-    fs_khz: usize,
-    nb_subfr: usize,
-    complexity: usize,
-    search_thres2_q13: i32,
-    prev_lag: i32,
-    prev_corr: i32,
-) -> LagSearch
-    requires { nb_subfr ≤ 4 }
-    ensures { result ≡ lag_search fs_khz nb_subfr complexity search_thres2_q13 prev_lag prev_corr }
+fn lag_search(s: Settings, prev: Previous) -> LagSearch
+    requires { s.nb ≤ 4 }
+    ensures { result ≡ lag_search s.rate s.nb s.complexity s.thres2 prev.lag prev.correlation }
 {
     LagSearch {
-        nb: nb_subfr,
-        contours: nb_cbk_search_stage2(fs_khz, nb_subfr, complexity),
-        thres: silk_smulbb(nb_subfr as i32, search_thres2_q13),
-        prev: previous_8khz(fs_khz, prev_lag),
-        corr: prev_corr,
+        nb: s.nb,
+        contours: nb_cbk_search_stage2(s.rate, s.nb, s.complexity),
+        thres: silk_smulbb(s.nb as i32, s.thres2),
+        prev: Previous {
+            lag: previous_8khz(s.rate, prev.lag),
+            correlation: prev.correlation,
+        },
     }
 }
 
-// Stage 2: the winner with its contour and correlation, unvoiced, or a zero divisor.
+// Stage 2: the winner with its contour and correlation, or that the frame is unvoiced, or a zero divisor.
 pub fn search_stage2(
     frame_8khz: &[i16],
     kept: &[usize],
-    fs_khz: usize,
-    nb_subfr: usize,
-    complexity: usize,
-    search_thres2_q13: i32,
-    prev_lag: i32,
-    prev_corr: i32,
-) -> Stage2
-    requires { Handed2 frame_8khz.now kept.now fs_khz nb_subfr complexity }
-    ensures value { result ≡ stage2 frame_8khz.now kept.now fs_khz nb_subfr complexity search_thres2_q13 prev_lag prev_corr }
-    ensures result_value { stage2_numbers result ≡ answer_numbers (stage2_verdict frame_8khz.now kept.now fs_khz nb_subfr complexity search_thres2_q13 prev_lag prev_corr) (stage2_values frame_8khz.now kept.now fs_khz nb_subfr complexity search_thres2_q13 prev_lag prev_corr) }
+    s: Settings,
+    prev: Previous,
+) -> Result<Chosen, NoPitch>
+    requires { Handed2 frame_8khz.now kept.now s.rate s.nb s.complexity }
+    ensures value { answer_of result ≡ stage2 frame_8khz.now kept.now s.rate s.nb s.complexity s.thres2 prev.lag prev.correlation }
+    ensures numbers { stage2_numbers (answer_of result) ≡ answer_numbers (stage2_verdict frame_8khz.now kept.now s.rate s.nb s.complexity s.thres2 prev.lag prev.correlation) (stage2_values frame_8khz.now kept.now s.rate s.nb s.complexity s.thres2 prev.lag prev.correlation) }
 {
     let marks = measured_lags(kept);
     let mut c_8khz = [[0i16; 132]; 4];
+    let nb_subfr = s.nb;
     for k in 0..nb_subfr {
-        let row = subframe_row(frame_8khz, k, &marks);
-        if row.zero {
-            return Stage2::ZeroDivisor;
-        }
-        let c = row.c;
-        c_8khz[k] = c;
+        let row = subframe_row(frame_8khz, k, &marks).ok_or(NoPitch::ZeroDivisor)?;
+        c_8khz[k] = row;
     }
-    let by = lag_search(
-        fs_khz,
-        nb_subfr,
-        complexity,
-        search_thres2_q13,
-        prev_lag,
-        prev_corr,
-    );
+    let by = lag_search(s, prev);
     answer(pick_lag(&c_8khz, kept, by), nb_subfr)
 }

@@ -1,11 +1,10 @@
 -- Stage 2's correlations, of the 8 kHz signal e, by subframe k and lag d; kept are the lags that stage 1 kept. Definitions only; the laws are in `RowLaws`.
-use Rattle.std.specs.Prelude.{Bool, ◌&&◌, cond, List, ℕ, ◌+◌, ◌-◌, ◌*◌, ◌/◌, ◌%◌, ℤ, pos, ◌+ℤ◌, drop}
+use Rattle.std.specs.Prelude.{Option, Bool, ◌&&◌, cond, List, ℕ, ◌+◌, ◌-◌, ◌*◌, ◌/◌, ◌%◌, ℤ, pos, ◌+ℤ◌, drop}
 use Rattle.std.specs.Int.Signed.{lt_z}
 use Rattle.std.specs.Int.{w32}
 use Rattle.zint.specs.Wrap.{wrap}
 use Rattle.best.specs.Best.{some}
 use Rattle.silk_macros.specs.Divide.{quotient, by_zero, low16_of}
-use Rattle.silk_macros.specs.declared.Quotient.{Quotient}
 use Rattle.silk_sigproc.specs.Dot.{dot, energy_sum}
 use Rattle.stage2_correlations.specs.Marks.{measured}
 
@@ -38,7 +37,7 @@ unfoldable pub divisor2 : List ℤ → ℕ → ℕ → ℤ
 divisor2 e k d = wrap w32 (divisor_sum2 e k d)
 
 -- the quotient at Q14, or a zero divisor
-unfoldable pub quotient2 : List ℤ → ℕ → ℕ → Quotient
+unfoldable pub quotient2 : List ℤ → ℕ → ℕ → Option ℤ
 quotient2 e k d = quotient (cross2 e k d) (divisor2 e k d) (pos 14)
 
 -- A lag that is not measured has correlation 0. A measured one has the quotient's low 16 bits where the cross-correlation is positive, else 0: only there is the quotient reached

@@ -1,8 +1,8 @@
 -- Laws of a subframe's row: a ratio way by way, the divisor from running energies, one lag more, and the row at the marks of the kept lags.
-use Rattle.std.specs.Prelude.{◌≡◌, refl, Bool, true, false, ◌&&◌, ◌||◌, cond, List, ℕ, ◌+◌, ◌-◌, ◌<◌, ◌≤◌, ℤ, pos, nat_abs, ◌+ℤ◌, ◌-ℤ◌, ◌*ℤ◌, get_or, drop}
+use Rattle.std.specs.Prelude.{Option, Some, None, ◌≡◌, refl, Bool, true, false, ◌&&◌, ◌||◌, cond, List, ℕ, ◌+◌, ◌-◌, ◌<◌, ◌≤◌, ℤ, pos, nat_abs, ◌+ℤ◌, ◌-ℤ◌, ◌*ℤ◌, get_or, drop}
 use Rattle.std.proofs.Math.Path.{sym}
 use Rattle.std.proofs.Common.{ap, ap₂, ◌∙◌, add-one, arith, lit<}
-use Rattle.std.proofs.Math.Bool.{or-true, or-false}
+use Rattle.std.proofs.Math.Bool.{or-false}
 use Rattle.std.proofs.Math.IntN.{+ℤ_assoc}
 use Rattle.std.specs.Int.Signed.{lt_z}
 use Rattle.std.specs.Int.{w16, w32}
@@ -13,11 +13,9 @@ use Rattle.lists.specs.Signal.{sample}
 use Rattle.lists.specs.Fill.{tabulate}
 use Rattle.lists.specs.FillLaws.{get_d_tabulate, tabulate_ext}
 use Rattle.best.specs.Best.{some}
-use Rattle.best.specs.BestLaws.{some_ext}
+use Rattle.best.specs.BestLaws.{some_true, some_false, some_ext}
 use Rattle.best.specs.PairLaws.{some_pairs}
 use Rattle.silk_macros.specs.Divide.{quotient, low16_of, by_zero}
-use Rattle.silk_macros.specs.declared.Quotient.{Quotient}
-use Rattle.silk_macros.specs.declared.Quotient.TheVariants.{Value, ZeroDivisor}
 use Rattle.silk_sigproc.specs.Dot.{dot, energy_sum}
 use Rattle.silk_sigproc.specs.DotLaws.{dot_slide}
 use Rattle.stage2_correlations.specs.Marks.{near, marked, measured}
@@ -28,15 +26,15 @@ use Rattle.stage2_correlations.specs.Rows.{reached_ratio, ratio_of, at_lag, valu
 -- ---- the quotient's two answers
 
 module _ (x n : ℤ) where
-  pub ratio_none : lt_z (pos 0) x ≡ false → record { zero = false; value = pos 0 } ≡ ratio_of x n
+  pub ratio_none : lt_z (pos 0) x ≡ false → Some (pos 0) ≡ ratio_of x n
   unfolding ratio_of
   ratio_none h = sym (ap (λ (t : Bool). reached_ratio t (quotient x n (pos 14))) h)
 
-  pub ratio_value : (q : ℤ) → lt_z (pos 0) x ≡ true → quotient x n (pos 14) ≡ Value q → record { zero = false; value = wrap w16 q } ≡ ratio_of x n
+  pub ratio_value : (q : ℤ) → lt_z (pos 0) x ≡ true → quotient x n (pos 14) ≡ Some q → Some (wrap w16 q) ≡ ratio_of x n
   unfolding ratio_of
   ratio_value q h e = sym (ap₂ reached_ratio h e)
 
-  pub ratio_zero : lt_z (pos 0) x ≡ true → quotient x n (pos 14) ≡ ZeroDivisor → record { zero = true; value = pos 0 } ≡ ratio_of x n
+  pub ratio_zero : lt_z (pos 0) x ≡ true → quotient x n (pos 14) ≡ None → None ≡ ratio_of x n
   unfolding ratio_of
   ratio_zero h e = sym (ap₂ reached_ratio h e)
 
@@ -59,45 +57,63 @@ energy_back e b z h =
 -- ---- one lag more
 
 pub at_lag_is : (e : List ℤ) (m : List Bool) (k i : ℕ) (n : ℤ) → n ≡ divisor2 e k (14 + i)
-    → at_lag (get_or m i false) e (target2 k) (14 + i) n ≡ record { zero = zero_at e m k i; value = value_at e m k i }
+    → at_lag (get_or m i false) e (target2 k) (14 + i) n ≡ cond (zero_at e m k i) None (Some (value_at e m k i))
 unfolding at_lag ratio_of cross2 cross_sum2 quotient2
-at_lag_is e m k i n h = by (get_or m i false)
+at_lag_is e m k i n h =
+    let x = wrap w32 (dot (drop (target2 k) e) (drop (target2 k - (14 + i)) e) 40) in
+    ap (λ (z : ℤ). cond (get_or m i false) (ratio_of x z) (Some (pos 0))) h ∙ by (get_or m i false) (lt_z (pos 0) x) (quotient x (divisor2 e k (14 + i)) (pos 14))
   where
-    by : (t : Bool) → cond t (ratio_of (wrap w32 (dot (drop (target2 k) e) (drop (target2 k - (14 + i)) e) 40)) n) (record { zero = false; value = pos 0 })
-        ≡ record { zero = t && (lt_z (pos 0) (cross2 e k (14 + i)) && by_zero (quotient2 e k (14 + i))); value = cond t (cond (lt_z (pos 0) (cross2 e k (14 + i))) (low16_of (quotient2 e k (14 + i))) (pos 0)) (pos 0) }
-    by true = ap (ratio_of (cross2 e k (14 + i))) h
-    by false = refl
+    by : (t u : Bool) (q : Option ℤ) → cond t (reached_ratio u q) (Some (pos 0)) ≡ cond (t && (u && by_zero q)) None (Some (cond t (cond u (low16_of q) (pos 0)) (pos 0)))
+    by true true (Some q) = refl
+    by true true None = refl
+    by true false q = refl
+    by false u q = refl
+
+-- the answer of a lag: its value, or that its divisor is zero
+pub lag_some : (t : Bool) (y : ℤ) {z : ℤ} → cond t None (Some y) ≡ Some z → (t ≡ false) × (z ≡ y)
+lag_some true y e = cc
+lag_some false y e = (refl, cc)
+
+pub lag_none : (t : Bool) (y : ℤ) → cond t None (Some y) ≡ None → t ≡ true
+lag_none true y e = refl
+lag_none false y e = cc
+
+-- the row where no divisor is zero, and where one is
+module _ (e : List ℤ) (m : List Bool) (k : ℕ) where
+  abbrev row_by : Bool → Option (List ℤ)
+  row_by t = cond t None (Some (tabulate (value_at e m k) 132))
+
+  pub row_some : ((i : ℕ) → i < 132 → zero_at e m k i ≡ false) → Some (tabulate (value_at e m k) 132) ≡ subframe_row e m k
+  unfolding subframe_row
+  row_some h = sym (ap row_by (some_false 132 (zero_at e m k) h))
+
+  pub row_none : (i : ℕ) → i < 132 → zero_at e m k i ≡ true → None ≡ subframe_row e m k
+  unfolding subframe_row
+  row_none i l h = sym (ap row_by (some_true 132 (zero_at e m k) i l h))
 
 pub some_next : (n : ℕ) (t : ℕ → Bool) → some (n + 1) t ≡ (some n t || t n)
 unfolding some
 some_next n t = ap (λ (m : ℕ). some m t) (add-one n)
 
-pub some_more : (n : ℕ) (t : ℕ → Bool) {z : Bool} → t n ≡ true → z ≡ true → z ≡ some (n + 1) t
-some_more n t e f = f ∙ sym (some_next n t ∙ ap (λ (b : Bool). some n t || b) e ∙ or-true (some n t))
-
-pub some_same : (n : ℕ) (t : ℕ → Bool) {z : Bool} → t n ≡ false → z ≡ some n t → z ≡ some (n + 1) t
-some_same n t e f = f ∙ sym (some_next n t ∙ ap (λ (b : Bool). some n t || b) e ∙ or-false (some n t))
-
 -- ---- the row at the marks of the kept lags
 
 pub subframe_row_kept : (e : List ℤ) (kept : List ℕ) (k : ℕ)
-    → subframe_row e (tabulate (λ i. measured kept (14 + i)) 132) k ≡ record { zero = some 132 (λ i. zero_reached2 e kept k (14 + i)); c = tabulate (λ i. correlation2 e kept k (14 + i)) 132 }
+    → subframe_row e (tabulate (λ i. measured kept (14 + i)) 132) k ≡ cond (some 132 (λ i. zero_reached2 e kept k (14 + i))) None (Some (tabulate (λ i. correlation2 e kept k (14 + i)) 132))
 unfolding subframe_row correlation2 zero_reached2
 subframe_row_kept e kept k =
     let marks = tabulate (λ i. measured kept (14 + i)) 132 in
     let m : (i : ℕ) → i < 132 → get_or marks i false ≡ measured kept (14 + i) = λ i h. get_d_tabulate _ 132 i false h in
     let v : ℕ → ℤ = λ i. cond (lt_z (pos 0) (cross2 e k (14 + i))) (low16_of (quotient2 e k (14 + i))) (pos 0) in
     let z : ℕ → Bool = λ i. lt_z (pos 0) (cross2 e k (14 + i)) && by_zero (quotient2 e k (14 + i)) in
-    (λ t. record {
-      zero = some_ext 132 (zero_at e marks k) (λ i. measured kept (14 + i) && z i) (λ i h. ap (λ (b : Bool). b && z i) (m i h)) t;
-      c = tabulate_ext {f = value_at e marks k} {g = λ i. cond (measured kept (14 + i)) (v i) (pos 0)} 132 (λ i h. ap (λ (b : Bool). cond b (v i) (pos 0)) (m i h)) t;
-    })
+    ap₂ (λ (t : Bool) (l : List ℤ). cond t None (Some l))
+    (some_ext 132 (zero_at e marks k) (λ i. measured kept (14 + i) && z i) (λ i h. ap (λ (b : Bool). b && z i) (m i h)))
+    (tabulate_ext {f = value_at e marks k} {g = λ i. cond (measured kept (14 + i)) (v i) (pos 0)} 132 (λ i h. ap (λ (b : Bool). cond b (v i) (pos 0)) (m i h)))
 
 -- ---- a correlation has 16 bits
 
-low16_small : (a : Quotient) → nat_abs (low16_of a) ≤ 32768
-low16_small (Value q) = fits_abs (wrap_fits w16 q)
-low16_small ZeroDivisor = omega arith
+low16_small : (a : Option ℤ) → nat_abs (low16_of a) ≤ 32768
+low16_small (Some q) = fits_abs (wrap_fits w16 q)
+low16_small None = omega arith
 
 cond_small : (t : Bool) (z : ℤ) → nat_abs z ≤ 32768 → nat_abs (cond t z (pos 0)) ≤ 32768
 cond_small true z h = h

@@ -1,26 +1,24 @@
--- What the functions of a subframe answer, over any marks: a ratio, a lag's correlation, and the row of the lags 14 to 145. Nothing here is part of what stage 2 means.
-use Rattle.std.specs.Prelude.{Bool, false, ◌&&◌, cond, List, ℕ, ◌+◌, ◌-◌, ℤ, pos, drop, get_or}
+-- What the functions of a subframe answer, over any marks: a ratio, a lag's correlation, and the row of the lags 14 to 145, none where a divisor that is reached is zero.
+-- Nothing here is part of what stage 2 means.
+use Rattle.std.specs.Prelude.{Option, Some, None, option_map, Bool, false, ◌&&◌, cond, List, ℕ, ◌+◌, ◌-◌, ℤ, pos, drop, get_or}
 use Rattle.std.specs.Int.Signed.{lt_z}
-use Rattle.std.specs.Int.{w32}
+use Rattle.std.specs.Int.{w16, w32}
 use Rattle.zint.specs.Wrap.{wrap}
 use Rattle.lists.specs.Fill.{tabulate}
 use Rattle.best.specs.Best.{some}
 use Rattle.silk_macros.specs.Divide.{quotient, by_zero, low16_of}
-use Rattle.silk_macros.specs.declared.Quotient.{Quotient}
 use Rattle.silk_sigproc.specs.Dot.{dot}
-use Rattle.stage2_correlations.specs.declared.Ratio.{Ratio}
-use Rattle.stage2_correlations.specs.declared.SubframeRow.{SubframeRow}
 use Rattle.stage2_correlations.specs.Correlations.{cross2, quotient2}
 
--- a quotient where the test holds: its low 16 bits, and whether its divisor is zero
-abbrev pub reached_ratio : Bool → Quotient → Ratio
-reached_ratio t q = record { zero = t && by_zero q; value = cond t (low16_of q) (pos 0) }
+-- a quotient where the test holds: its low 16 bits, and none by zero
+abbrev pub reached_ratio : Bool → Option ℤ → Option ℤ
+reached_ratio t q = cond t (option_map (wrap w16) q) (Some (pos 0))
 
-unfoldable pub ratio_of : ℤ → ℤ → Ratio
+unfoldable pub ratio_of : ℤ → ℤ → Option ℤ
 ratio_of x n = reached_ratio (lt_z (pos 0) x) (quotient x n (pos 14))
 
-unfoldable pub at_lag : Bool → List ℤ → ℕ → ℕ → ℤ → Ratio
-at_lag m e t d n = cond m (ratio_of (wrap w32 (dot (drop t e) (drop (t - d) e) 40)) n) (record { zero = false; value = pos 0 })
+unfoldable pub at_lag : Bool → List ℤ → ℕ → ℕ → ℤ → Option ℤ
+at_lag m e t d n = cond m (ratio_of (wrap w32 (dot (drop t e) (drop (t - d) e) 40)) n) (Some (pos 0))
 
 -- the i-th lag's correlation, and whether its divisor is reached and zero
 abbrev pub value_at : List ℤ → List Bool → ℕ → ℕ → ℤ
@@ -29,5 +27,5 @@ value_at e m k i = cond (get_or m i false) (cond (lt_z (pos 0) (cross2 e k (14 +
 abbrev pub zero_at : List ℤ → List Bool → ℕ → ℕ → Bool
 zero_at e m k i = get_or m i false && (lt_z (pos 0) (cross2 e k (14 + i)) && by_zero (quotient2 e k (14 + i)))
 
-unfoldable pub subframe_row : List ℤ → List Bool → ℕ → SubframeRow
-subframe_row e m k = record { zero = some 132 (zero_at e m k); c = tabulate (value_at e m k) 132 }
+unfoldable pub subframe_row : List ℤ → List Bool → ℕ → Option (List ℤ)
+subframe_row e m k = cond (some 132 (zero_at e m k)) None (Some (tabulate (value_at e m k) 132))

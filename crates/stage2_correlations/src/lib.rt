@@ -11,7 +11,7 @@ ghost use Rattle.stage2_correlations.specs.Marks.{near, marked, listed, measured
 ghost use Rattle.stage2_correlations.specs.Correlations.{target2};
 ghost use Rattle.stage2_correlations.specs.Rows.{ratio_of, at_lag, subframe_row};
 
-use silk_macros::{Quotient, silk_div32_varq};
+use silk_macros::silk_div32_varq;
 use silk_sigproc::{energy_of_40, silk_inner_prod_aligned, square};
 use silk_tables::{MAX_LAG_8KHZ, PE_MIN_LAG_MS};
 use zint::{as_i16, wrapping_add_i32, wrapping_sub_i32};
@@ -21,21 +21,6 @@ pub const MIN_LAG_8KHZ: usize = PE_MIN_LAG_MS * 8;
 
 // The samples of a subframe at 8 kHz.
 pub const SF_LENGTH_8KHZ: usize = 40;
-
-// A lag's correlation at Q14, cut to 16 bits, and whether its divisor was reached and is zero.
-#[derive(Drop)]
-pub struct Ratio {
-    pub zero: bool,
-    pub value: i16,
-}
-
-// A subframe's correlations at the lags 14 to 145 (132 places, the source's CSTRIDE_8KHZ; lag 145 can be read and is never measured), and whether a divisor that was
-// reached is zero.
-#[derive(Drop)]
-pub struct SubframeRow {
-    pub zero: bool,
-    pub c: [i16; 132],
-}
 
 // Whether d lies from v - below to v + above for the double v of a kept lag.
 fn is_near(kept: &[usize], d: usize, below: usize, above: usize) -> bool
@@ -95,31 +80,20 @@ pub fn measured_lags(kept: &[usize]) -> [bool; 132]
     marks
 }
 
-// The quotient where the cross-correlation is positive.
-fn divide(cross_corr: i32, norm: i32) -> Ratio
+// The quotient where the cross-correlation is positive, at Q14 and cut to 16 bits, else 0; none by zero.
+fn divide(cross_corr: i32, norm: i32) -> Option<i16>
     ensures { result ≡ ratio_of cross_corr norm }
 {
     if cross_corr > 0 {
-        let Quotient::Value(q) = silk_div32_varq(cross_corr, norm, 14) else {
-            return Ratio {
-                zero: true,
-                value: 0,
-            };
-        };
-        Ratio {
-            zero: false,
-            value: as_i16(q),
-        }
+        let q = silk_div32_varq(cross_corr, norm, 14)?;
+        Some(as_i16(q))
     } else {
-        Ratio {
-            zero: false,
-            value: 0,
-        }
+        Some(0)
     }
 }
 
-// The correlation at the lag d of the samples from target on; 0 where the lag is not measured.
-fn correlate(marked: bool, frame_8khz: &[i16], target: usize, d: usize, norm: i32) -> Ratio
+// The correlation at the lag d of the samples from target on; 0 where the lag is not measured, and none where its divisor is reached and zero.
+fn correlate(marked: bool, frame_8khz: &[i16], target: usize, d: usize, norm: i32) -> Option<i16>
     requires { (d ≤ target) × (target + 40 ≤ length frame_8khz.now) }
     ensures { result ≡ at_lag marked frame_8khz.now target d norm }
 {
@@ -130,10 +104,7 @@ fn correlate(marked: bool, frame_8khz: &[i16], target: usize, d: usize, norm: i3
             norm,
         )
     } else {
-        Ratio {
-            zero: false,
-            value: 0,
-        }
+        Some(0)
     }
 }
 
@@ -144,8 +115,9 @@ fn slide(energy: i32, gone: i16, come: i16) -> i32
     wrapping_add_i32(wrapping_sub_i32(energy, square(gone)), square(come))
 }
 
-// The correlations of subframe k at the marked lags.
-pub fn subframe_row(frame_8khz: &[i16], k: usize, marks: &[bool; 132]) -> SubframeRow
+// The correlations of subframe k at the marked lags among 14 to 145 (132 places, the source's CSTRIDE_8KHZ; lag 145 can be read and is never measured), and 0 at the others;
+// none where a divisor that is reached is zero.
+pub fn subframe_row(frame_8khz: &[i16], k: usize, marks: &[bool; 132]) -> Option<[i16; 132]>
     requires { (k < 4) × (target2 k + 40 ≤ length frame_8khz.now) }
     ensures { result ≡ subframe_row frame_8khz.now marks.now k }
 {
@@ -153,15 +125,10 @@ pub fn subframe_row(frame_8khz: &[i16], k: usize, marks: &[bool; 132]) -> Subfra
     let energy_target = wrapping_add_i32(energy_of_40(frame_8khz, target), 1);
     let mut energy_basis = energy_of_40(frame_8khz, target - 14);
     let mut c_8khz = [0i16; 132];
-    let mut zero = false;
     for i in 0..132 {
         let norm = wrapping_add_i32(energy_target, energy_basis);
-        let at = correlate(marks[i], frame_8khz, target, 14 + i, norm);
-        let value = at.value;
+        let value = correlate(marks[i], frame_8khz, target, 14 + i, norm)?;
         c_8khz[i] = value;
-        if at.zero {
-            zero = true;
-        }
         let basis = target - 15 - i;
         energy_basis = slide(
             energy_basis,
@@ -169,5 +136,5 @@ pub fn subframe_row(frame_8khz: &[i16], k: usize, marks: &[bool; 132]) -> Subfra
             frame_8khz[basis],
         );
     }
-    SubframeRow { zero, c: c_8khz }
+    Some(c_8khz)
 }

@@ -3,9 +3,7 @@
 -- and of no other.
 use Rattle.std.specs.Prelude.{◌≡◌, List, ◌⊎◌, ℕ, ◌+◌, ◌<◌, ◌≤◌, ℤ, pos, ◌+ℤ◌, ◌≤ℤ◌, ◌<ℤ◌}
 use Rattle.silk_tables.specs.Tables.{in_use, offset, least_lag, greatest_lag}
-use Rattle.stage3.specs.declared.Found.{Found}
-use Rattle.stage3.specs.declared.Found.TheVariants.{Pair, ZeroDivisor}
-use Rattle.stage3.specs.Pick.{score}
+use Rattle.stage3.specs.Pick.{Found, Pair, ZeroDivisor, score}
 use Rattle.stage3.specs.Stage3.{cross3, energy3, choice}
 
 -- a lag is tried: it is within 2 of the scaled winner, and within the least and the greatest lag

@@ -19,9 +19,7 @@ use Rattle.silk_tables.proofs.TableLaws.{in_use_bounds}
 use Rattle.best.specs.Best.{some, Place, none, at, best, BestOf}
 use Rattle.best.specs.BestLaws.{some_find, some_none}
 use Rattle.best.proofs.BestOfLaws.{best_outcome, BestBelow}
-use Rattle.stage3.specs.declared.Found.{Found}
-use Rattle.stage3.specs.declared.Found.TheVariants.{Pair, ZeroDivisor}
-use Rattle.stage3.specs.Pick.{Choice, first_tried, last_tried, tried, quotient_of, zero_reached3, reached, candidate, score, zero_no, candidate_no, score_no, lag_no, contour_no, pair_count, pair_at, pick}
+use Rattle.stage3.specs.Pick.{Found, Pair, ZeroDivisor, Choice, first_tried, last_tried, tried, quotient_of, zero_reached3, reached, candidate, score, zero_no, candidate_no, score_no, lag_no, contour_no, pair_count, pair_at, pick}
 use Rattle.stage3.specs.Stage3.{cross3, energy3, choice, stage3, Handed}
 use Rattle.stage3.specs.Meaning.{Tried, Earlier, points, Candidate, ZeroReached, BestPair, Meaning}
 use Rattle.zint.specs.EqualLaws.{eq_z_yes, eq_z_true}

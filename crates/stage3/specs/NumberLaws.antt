@@ -5,9 +5,7 @@ use Rattle.std.proofs.Common.{ap, ◌∙◌}
 use Rattle.std.proofs.Math.Bool.{true, false}
 use Rattle.answers.specs.Answer.{answer_numbers}
 use Rattle.best.specs.Best.{Place, none, at}
-use Rattle.stage3.specs.declared.Found.{Found}
-use Rattle.stage3.specs.declared.Found.TheVariants.{ZeroDivisor}
-use Rattle.stage3.specs.Pick.{pair_at, zero3, best3, pick}
+use Rattle.stage3.specs.Pick.{Found, ZeroDivisor, pair_at, zero3, best3, pick}
 use Rattle.stage3.specs.Stage3.{choice, stage3, found_numbers, pair_values, stage3_verdict, stage3_values}
 
 module _ (w : List ℤ) (fs nb cx lag : ℕ) where

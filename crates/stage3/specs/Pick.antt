@@ -1,14 +1,21 @@
 -- Stage 3's choice of a pair, a lag d and a contour j, by comparison with all others.
-use Rattle.std.specs.Prelude.{Bool, ◌&&◌, cond, ℕ, ◌+◌, ◌-◌, ◌*◌, ◌/◌, ◌%◌, min, max, ℤ, pos, ◌+ℤ◌, ◌-ℤ◌, ◌*ℤ◌}
+use Rattle.std.specs.Prelude.{Option, Some, None, Bool, ◌&&◌, cond, ℕ, ◌+◌, ◌-◌, ◌*◌, ◌/◌, ◌%◌, min, max, ℤ, pos, ◌+ℤ◌, ◌-ℤ◌, ◌*ℤ◌}
 use Rattle.std.specs.Int.Signed.{lt_z, le_z, quot_z}
 use Rattle.silk_macros.specs.Macros.{smulwb}
 use Rattle.silk_macros.specs.Divide.{quotient, by_zero}
 use Rattle.silk_tables.specs.Tables.{in_use, offset, least_lag, greatest_lag}
 use Rattle.best.specs.Best.{some, Place, none, at, best}
-use Rattle.silk_macros.specs.declared.Quotient.{Quotient}
-use Rattle.silk_macros.specs.declared.Quotient.TheVariants.{Value, ZeroDivisor as ByZero}
-use Rattle.stage3.specs.declared.Found.{Found}
-use Rattle.stage3.specs.declared.Found.TheVariants.{Pair, ZeroDivisor}
+use Rattle.stage3.specs.declared.LagContour.{LagContour}
+
+-- what stage 3 answers: the lag and the contour, or that a quotient it takes has divisor zero
+pub data Found : Type 0 where
+  Pair : ℕ → ℕ → Found
+  ZeroDivisor : Found
+
+-- the code's answer
+abbrev pub answer_of : Option LagContour → Found
+answer_of (Some p) = Pair p.lag p.contour
+answer_of None = ZeroDivisor
 
 -- what stage 3 chooses from: the rate, the subframe count, the complexity, the scaled winner of stage 2, and of every pair of a lag d and a contour j the summed
 -- cross-correlation and the summed energy
@@ -33,7 +40,7 @@ tried fs lag = last_tried fs lag + 1 - first_tried fs lag
 
 -- ---- the quotient at Q14, with a zero divisor as an answer of its own, and the score
 
-abbrev pub quotient_of : ℤ → ℤ → Quotient
+abbrev pub quotient_of : ℤ → ℤ → Option ℤ
 quotient_of c e = quotient c e (pos 14)
 
 -- a contour is marked down by 1638 / lag, its number of times
@@ -43,9 +50,9 @@ bias_of lag = quot_z (pos 1638) (pos lag)
 unfoldable pub biased : ℤ → ℤ → ℕ → ℤ
 biased q bias j = smulwb q (pos 32767 -ℤ bias *ℤ pos j)
 
-abbrev pub score_of : ℕ → ℕ → Quotient → ℤ
-score_of lag j (Value q) = biased q (bias_of lag) j
-score_of lag j ByZero = pos 0
+abbrev pub score_of : ℕ → ℕ → Option ℤ → ℤ
+score_of lag j (Some q) = biased q (bias_of lag) j
+score_of lag j None = pos 0
 
 -- ---- the pairs, by their number p: lags rising, then contours
 

@@ -1,19 +1,14 @@
 -- The search from the front, as the code goes: what one pair more makes of it, and what is known after n pairs. The contracts of private functions cite it; nothing here is
 -- part of what stage 3 means.
-use Rattle.std.specs.Prelude.{◌≡◌, Bool, true, false, ◌&&◌, cond, List, [], ℕ, ◌-◌, ◌<◌, ◌≤◌, ℤ, pos, get_or}
+use Rattle.std.specs.Prelude.{Option, Some, None, ◌≡◌, Bool, true, false, ◌&&◌, cond, List, [], ℕ, ◌-◌, ◌<◌, ◌≤◌, ℤ, pos, get_or}
 use Rattle.std.specs.Int.Signed.{lt_z}
 use Rattle.zint.specs.Minus.{minus}
 use Rattle.silk_tables.specs.Tables.{TableSettings, in_use, least_lag, greatest_lag}
 use Rattle.best.specs.Best.{Place}
 use Rattle.best.proofs.BestOfLaws as laws
-use Rattle.silk_macros.specs.declared.Quotient.{Quotient}
-use Rattle.silk_macros.specs.declared.Quotient.TheVariants.{Value, ZeroDivisor as ByZero}
-use Rattle.stage3.specs.declared.Found.TheVariants.{Pair}
+use Rattle.stage3.specs.Pick.{Pair, Choice, first_tried, quotient_of, bias_of, biased, zero_no, candidate_no, score_no, pair_at}
 use Rattle.stage3.specs.declared.BestSoFar.{BestSoFar}
 use Rattle.stage3.specs.declared.PairSearch.{PairSearch}
-use Rattle.stage3.specs.declared.SearchState.{SearchState}
-use Rattle.stage3.specs.declared.SearchState.TheVariants.{Going, Stopped}
-use Rattle.stage3.specs.Pick.{Choice, first_tried, quotient_of, bias_of, biased, zero_no, candidate_no, score_no, pair_at}
 use Rattle.stage3.specs.Stage3.{sat_sum}
 
 -- a place of a nested array, and the sum over the subframes at a lag and a contour
@@ -36,13 +31,13 @@ array_choice X E e by =
     }
 
 -- one pair more: the quotient is taken where the cross-correlation is positive
-abbrev pub with_quotient : BestSoFar → ℤ → ℕ → ℕ → Bool → Quotient → SearchState
-with_quotient b bias d j reach ByZero = Stopped
-with_quotient b bias d j reach (Value q) =
-    cond (reach && lt_z b.top (biased q bias j)) (Going (record { top = biased q bias j; lag = d; contour = j })) (Going b)
+abbrev pub with_quotient : BestSoFar → ℤ → ℕ → ℕ → Bool → Option ℤ → Option BestSoFar
+with_quotient b bias d j reach None = None
+with_quotient b bias d j reach (Some q) =
+    cond (reach && lt_z b.top (biased q bias j)) (Some (record { top = biased q bias j; lag = d; contour = j })) (Some b)
 
-unfoldable pub with_pair : BestSoFar → ℤ → ℤ → ℤ → ℕ → ℕ → Bool → SearchState
-with_pair b x e bias d j reach = cond (lt_z (pos 0) x) (with_quotient b bias d j reach (quotient_of x e)) (Going b)
+unfoldable pub with_pair : BestSoFar → ℤ → ℤ → ℤ → ℕ → ℕ → Bool → Option BestSoFar
+with_pair b x e bias d j reach = cond (lt_z (pos 0) x) (with_quotient b bias d j reach (quotient_of x e)) (Some b)
 
 -- what a scan is handed
 pub record Scanned (bias : ℤ) (by : PairSearch) : Type 0 where
@@ -69,6 +64,6 @@ pub record BestOfFirst (c : Choice) (n : ℕ) (b : BestSoFar) : Type 0 where
   pub no_zero : (q : ℕ) → q < n → zero_no c q ≡ false
 
 -- that, or one of them had a zero divisor
-abbrev pub AfterFirst : Choice → ℕ → SearchState → Type 0
-AfterFirst c n (Going b) = BestOfFirst c n b
-AfterFirst c n Stopped = (q : ℕ) × (q < n) × (zero_no c q ≡ true)
+abbrev pub AfterFirst : Choice → ℕ → Option BestSoFar → Type 0
+AfterFirst c n (Some b) = BestOfFirst c n b
+AfterFirst c n None = (q : ℕ) × (q < n) × (zero_no c q ≡ true)

@@ -1,5 +1,5 @@
 -- Laws of the search from the front: what one pair more makes of what is known after n pairs, and that the search over the arrays is stage 3's pick.
-use Rattle.std.specs.Prelude.{◌≡◌, Bool, true, false, List, ℕ, ◌+◌, ◌-◌, ◌*◌, ◌/◌, ◌<◌, ◌≤◌, ℤ, pos, ◌≤ℤ◌, ◌<ℤ◌}
+use Rattle.std.specs.Prelude.{Option, Some, None, ◌≡◌, Bool, true, false, List, ℕ, ◌+◌, ◌-◌, ◌*◌, ◌/◌, ◌<◌, ◌≤◌, ℤ, pos, ◌≤ℤ◌, ◌<ℤ◌}
 use Rattle.std.proofs.Math.Path.{refl, sym, ap, ap₂, subst}
 use Rattle.std.proofs.Common.{◌∙◌, mul-le-mul_right, div-lt_iff_lt-mul, below_more, SFits}
 use Rattle.std.proofs.Math.Bool.{◌&&◌, cond}
@@ -21,15 +21,9 @@ use Rattle.best.specs.Best.{Place, none, at, best}
 use Rattle.best.specs.BestLaws.{some_true, some_false, some_ext}
 use Rattle.best.proofs.BestOfLaws.{search_start, search_skip, search_better, search_kept, search_best, best_ext}
 use Rattle.best.proofs.BestOfLaws as laws
-use Rattle.silk_macros.specs.declared.Quotient.{Quotient}
-use Rattle.silk_macros.specs.declared.Quotient.TheVariants.{Value, ZeroDivisor as ByZero}
-use Rattle.stage3.specs.declared.Found.TheVariants.{Pair, ZeroDivisor}
+use Rattle.stage3.specs.Pick.{Pair, ZeroDivisor, Found, Choice, first_tried, last_tried, tried, quotient_of, bias_of, biased, score_of, used_in, zero_reached3, reached, candidate, score, zero_no, candidate_no, score_no, lag_no, contour_no, pair_count, pair_at, zero3, best3, pick}
 use Rattle.stage3.specs.declared.BestSoFar.{BestSoFar}
-use Rattle.stage3.specs.declared.Found.{Found}
 use Rattle.stage3.specs.declared.PairSearch.{PairSearch}
-use Rattle.stage3.specs.declared.SearchState.{SearchState}
-use Rattle.stage3.specs.declared.SearchState.TheVariants.{Going, Stopped}
-use Rattle.stage3.specs.Pick.{Choice, first_tried, last_tried, tried, quotient_of, bias_of, biased, score_of, used_in, zero_reached3, reached, candidate, score, zero_no, candidate_no, score_no, lag_no, contour_no, pair_count, pair_at, zero3, best3, pick}
 use Rattle.stage3.specs.Stage3.{energy_target, cross3, energy3, stage3, Handed}
 use Rattle.stage3.specs.Search.{at3, summed, array_choice, with_quotient, with_pair, BestOfFirst, AfterFirst}
 use Rattle.stage3.specs.PickLaws.{score_above, sat_sum_ext, few_lags}
@@ -37,34 +31,34 @@ use Rattle.stage3.specs.PickLaws.{score_above, sat_sum_ext, few_lags}
 -- ---- one pair more
 
 module _ (b : BestSoFar) (x e bias : ℤ) (d j : ℕ) (reach : Bool) where
-  pub passed : lt_z (pos 0) x ≡ false → with_pair b x e bias d j reach ≡ Going b
+  pub passed : lt_z (pos 0) x ≡ false → with_pair b x e bias d j reach ≡ Some b
   unfolding with_pair
-  passed h = ap (λ (t : Bool). cond t (with_quotient b bias d j reach (quotient_of x e)) (Going b)) h
+  passed h = ap (λ (t : Bool). cond t (with_quotient b bias d j reach (quotient_of x e)) (Some b)) h
 
-  pub stopped : lt_z (pos 0) x ≡ true → quotient_of x e ≡ ByZero → with_pair b x e bias d j reach ≡ Stopped
+  pub stopped : lt_z (pos 0) x ≡ true → quotient_of x e ≡ None → with_pair b x e bias d j reach ≡ None
   unfolding with_pair
-  stopped h k = ap₂ (λ (t : Bool) (q : Quotient). cond t (with_quotient b bias d j reach q) (Going b)) h k
+  stopped h k = ap₂ (λ (t : Bool) (q : Option ℤ). cond t (with_quotient b bias d j reach q) (Some b)) h k
 
-  module _ (q : ℤ) (h : lt_z (pos 0) x ≡ true) (k : quotient_of x e ≡ Value q) where
-    divided : with_pair b x e bias d j reach ≡ with_quotient b bias d j reach (Value q)
+  module _ (q : ℤ) (h : lt_z (pos 0) x ≡ true) (k : quotient_of x e ≡ Some q) where
+    divided : with_pair b x e bias d j reach ≡ with_quotient b bias d j reach (Some q)
     unfolding with_pair
-    divided = ap₂ (λ (t : Bool) (q : Quotient). cond t (with_quotient b bias d j reach q) (Going b)) h k
+    divided = ap₂ (λ (t : Bool) (q : Option ℤ). cond t (with_quotient b bias d j reach q) (Some b)) h k
 
-    pub better : reach ≡ true → lt_z b.top (biased q bias j) ≡ true → with_pair b x e bias d j reach ≡ Going (record { top = biased q bias j; lag = d; contour = j })
+    pub better : reach ≡ true → lt_z b.top (biased q bias j) ≡ true → with_pair b x e bias d j reach ≡ Some (record { top = biased q bias j; lag = d; contour = j })
     better r l =
-        divided ∙ ap₂ (λ (t u : Bool). cond (t && u) (Going (record { top = biased q bias j; lag = d; contour = j })) (Going b)) r l
+        divided ∙ ap₂ (λ (t u : Bool). cond (t && u) (Some (record { top = biased q bias j; lag = d; contour = j })) (Some b)) r l
 
-    pub lower : lt_z b.top (biased q bias j) ≡ false → with_pair b x e bias d j reach ≡ Going b
+    pub lower : lt_z b.top (biased q bias j) ≡ false → with_pair b x e bias d j reach ≡ Some b
     lower l =
-        divided ∙ ap (λ (u : Bool). cond (reach && u) (Going (record { top = biased q bias j; lag = d; contour = j })) (Going b)) l ∙ no_less reach
+        divided ∙ ap (λ (u : Bool). cond (reach && u) (Some (record { top = biased q bias j; lag = d; contour = j })) (Some b)) l ∙ no_less reach
       where
-        no_less : (t : Bool) → cond (t && false) (Going (record { top = biased q bias j; lag = d; contour = j })) (Going b) ≡ Going b
+        no_less : (t : Bool) → cond (t && false) (Some (record { top = biased q bias j; lag = d; contour = j })) (Some b) ≡ Some b
         no_less true = refl
         no_less false = refl
 
-    pub beyond : reach ≡ false → with_pair b x e bias d j reach ≡ Going b
+    pub beyond : reach ≡ false → with_pair b x e bias d j reach ≡ Some b
     beyond r =
-        divided ∙ ap (λ (t : Bool). cond (t && lt_z b.top (biased q bias j)) (Going (record { top = biased q bias j; lag = d; contour = j })) (Going b)) r
+        divided ∙ ap (λ (t : Bool). cond (t && lt_z b.top (biased q bias j)) (Some (record { top = biased q bias j; lag = d; contour = j })) (Some b)) r
 
 -- ---- after n pairs
 
@@ -90,7 +84,7 @@ module _ (c : Choice) where
     abbrev reach : Bool
     reach = reached c.fs c.nb d j
 
-    abbrev next : SearchState
+    abbrev next : Option BestSoFar
     next = with_pair b (c.cross d j) (c.energy d j) (bias_of c.lag) d j reach
 
     kept : candidate_no c n ≡ false → zero_no c n ≡ false → BestOfFirst c (n + 1) b
@@ -108,20 +102,20 @@ module _ (c : Choice) where
         subst (AfterFirst c (n + 1)) (sym (passed b (c.cross d j) (c.energy d j) (bias_of c.lag) d j reach h))
         (kept (ap (λ (t : Bool). t && reach) h) (ap (λ (t : Bool). t && by_zero (quotient_of (c.cross d j) (c.energy d j))) h))
 
-    zero_divisor : lt_z (pos 0) (c.cross d j) ≡ true → quotient_of (c.cross d j) (c.energy d j) ≡ ByZero → AfterFirst c (n + 1) next
+    zero_divisor : lt_z (pos 0) (c.cross d j) ≡ true → quotient_of (c.cross d j) (c.energy d j) ≡ None → AfterFirst c (n + 1) next
     unfolding zero_reached3
     zero_divisor h k =
         subst (AfterFirst c (n + 1)) (sym (stopped b (c.cross d j) (c.energy d j) (bias_of c.lag) d j reach h k))
-        (n, omega arith, ap₂ (λ (t : Bool) (q : Quotient). t && by_zero q) h k)
+        (n, omega arith, ap₂ (λ (t : Bool) (q : Option ℤ). t && by_zero q) h k)
 
-    module _ (q : ℤ) (f : SFits w32 q) (h : lt_z (pos 0) (c.cross d j) ≡ true) (k : quotient_of (c.cross d j) (c.energy d j) ≡ Value q) where
+    module _ (q : ℤ) (f : SFits w32 q) (h : lt_z (pos 0) (c.cross d j) ≡ true) (k : quotient_of (c.cross d j) (c.energy d j) ≡ Some q) where
       scored : score_no c n ≡ biased q (bias_of c.lag) j
       unfolding score
       scored = ap (score_of c.lag j) k
 
       no_zero_here : zero_no c n ≡ false
       unfolding zero_reached3
-      no_zero_here = ap₂ (λ (t : Bool) (x : Quotient). t && by_zero x) h k
+      no_zero_here = ap₂ (λ (t : Bool) (x : Option ℤ). t && by_zero x) h k
 
       is_cand : (t : Bool) → reach ≡ t → candidate_no c n ≡ t
       unfolding candidate
@@ -159,14 +153,14 @@ module _ (c : Choice) where
       by_score true false r l = not_higher l
 
     -- the quotient's value fits
-    value_fits : (t : Bool) (q : ℤ) → cond t ByZero (Value (div32_varq (c.cross d j) (c.energy d j) (pos 14))) ≡ Value q → SFits w32 q
+    value_fits : (t : Bool) (q : ℤ) → cond t None (Some (div32_varq (c.cross d j) (c.energy d j) (pos 14))) ≡ Some q → SFits w32 q
     value_fits true q e = let z : ◌≡◌ {A = ℕ} 0 1 = cc in absurd (omega arith)
     value_fits false q e = let z : div32_varq (c.cross d j) (c.energy d j) (pos 14) ≡ q = cc in subst (SFits w32) z (div32_varq_fits (c.cross d j) (c.energy d j) (pos 14))
 
-    by_quotient : (x : Quotient) → lt_z (pos 0) (c.cross d j) ≡ true → quotient_of (c.cross d j) (c.energy d j) ≡ x → AfterFirst c (n + 1) next
+    by_quotient : (x : Option ℤ) → lt_z (pos 0) (c.cross d j) ≡ true → quotient_of (c.cross d j) (c.energy d j) ≡ x → AfterFirst c (n + 1) next
     unfolding quotient
-    by_quotient ByZero h k = zero_divisor h k
-    by_quotient (Value q) h k = by_score q (value_fits (eq_z (c.energy d j) (pos 0)) q k) h k reach (lt_z b.top (biased q (bias_of c.lag) j)) refl refl
+    by_quotient None h k = zero_divisor h k
+    by_quotient (Some q) h k = by_score q (value_fits (eq_z (c.energy d j) (pos 0)) q k) h k reach (lt_z b.top (biased q (bias_of c.lag) j)) refl refl
 
     by_sign : (t : Bool) → lt_z (pos 0) (c.cross d j) ≡ t → AfterFirst c (n + 1) next
     by_sign true h = by_quotient (quotient_of (c.cross d j) (c.energy d j)) h refl
@@ -189,7 +183,7 @@ module _ (c : Choice) where
     number_contour = digits_mod (d - first_tried c.fs c.lag) h
 
     -- one pair more, as a turn of a loop over the contours has it
-    pub searched_turn : (b : BestSoFar) → BestOfFirst c number b → (r : SearchState) → r ≡ with_pair b (c.cross d j) (c.energy d j) (bias_of c.lag) d j (reached c.fs c.nb d j)
+    pub searched_turn : (b : BestSoFar) → BestOfFirst c number b → (r : Option BestSoFar) → r ≡ with_pair b (c.cross d j) (c.energy d j) (bias_of c.lag) d j (reached c.fs c.nb d j)
         → AfterFirst c ((d - first_tried c.fs c.lag) * used_in c + (j + 1)) r
     searched_turn b s r e =
         let p = number_lag in
@@ -200,7 +194,7 @@ module _ (c : Choice) where
         subst (λ (n : ℕ). AfterFirst c n r) m (subst (AfterFirst c (number + 1)) same (searched_next number b s))
 
   -- a zero divisor among the first n pairs is one among more
-  pub stopped_more : (n m : ℕ) → n ≤ m → AfterFirst c n Stopped → AfterFirst c m Stopped
+  pub stopped_more : (n m : ℕ) → n ≤ m → AfterFirst c n None → AfterFirst c m None
   stopped_more n m h (q, l, e) = (q, omega arith, e)
 
   -- after all pairs

@@ -6,9 +6,7 @@ use Rattle.zint.specs.Wrap.{wrap}
 use Rattle.silk_sigproc.specs.Dot.{energy_sum}
 use Rattle.best.specs.Best.{Place, none, at}
 use Rattle.stage3_arrays.specs.Arrays.{cross_at, energy_at, LagInFrame}
-use Rattle.stage3.specs.declared.Found.{Found}
-use Rattle.stage3.specs.declared.Found.TheVariants.{Pair, ZeroDivisor}
-use Rattle.stage3.specs.Pick.{Choice, first_tried, lag_no, contour_no, zero3, best3, pick}
+use Rattle.stage3.specs.Pick.{Found, Pair, ZeroDivisor, Choice, first_tried, lag_no, contour_no, zero3, best3, pick}
 
 -- f 0, f 1, .., f (n - 1) added to e, held to 32 bits each time
 unfoldable pub sat_sum : ℤ → (ℕ → ℤ) → ℕ → ℤ

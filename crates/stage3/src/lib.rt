@@ -6,24 +6,25 @@
 ghost use Rattle.std.specs.Prelude.{◌≡◌, ℕ, ◌+◌, ◌-◌, ◌*◌, ◌<◌, ◌≤◌, min, max, pos, length, ◌≤ℤ◌};
 ghost use Rattle.answers.specs.Answer.{answer_numbers};
 ghost use Rattle.silk_tables.specs.Tables.{in_use};
-ghost use Rattle.stage3.specs.Pick.{first_tried, last_tried, biased, reached, pick};
+ghost use Rattle.stage3.specs.Pick.{answer_of, first_tried, last_tried, biased, reached, pick};
 ghost use Rattle.stage3.specs.Stage3.{sat_sum, energy_target, stage3, found_numbers, stage3_verdict, stage3_values, Handed};
 ghost use Rattle.stage3.specs.Search.{with_pair, at3, array_choice, Scanned, TriedPair, BestOfFirst, AfterFirst};
 
-use silk_macros::{Quotient, silk_add_sat32, silk_div32_16, silk_div32_varq, silk_smulwb};
+use pitch_settings::Settings;
+use silk_macros::{silk_add_sat32, silk_div32_16, silk_div32_varq, silk_smulwb};
 use silk_sigproc::energy_from;
 use stage3_arrays::{silk_p_ana_calc_corr_st3, silk_p_ana_calc_energy_st3};
 use zint::wrapping_add_i32;
 
-// What stage 3 answers: the lag and the contour, or that a quotient it takes has divisor zero.
-#[derive(Drop)]
-pub enum Found {
-    Pair { lag: usize, contour: usize },
-    ZeroDivisor,
+// The lag and the contour that are chosen.
+#[derive(Clone, Copy)]
+pub struct LagContour {
+    pub lag: usize,
+    pub contour: usize,
 }
 
 // The best pair so far and its score.
-#[derive(Drop)]
+#[derive(Clone, Copy)]
 pub struct BestSoFar {
     pub top: i32,
     pub lag: usize,
@@ -39,31 +40,12 @@ pub struct PairSearch {
     pub lag: usize,
 }
 
-// A search that goes on, or has met a zero divisor.
-#[derive(Drop)]
-pub enum SearchState {
-    Going(BestSoFar),
-    Stopped,
-}
-
-fn larger(a: usize, b: usize) -> usize
-    ensures { result ≡ max a b }
-{
-    if a < b { b } else { a }
-}
-
-fn smaller(a: usize, b: usize) -> usize
-    ensures { result ≡ min a b }
-{
-    if a < b { a } else { b }
-}
-
 // The first lag tried.
 fn start_lag(fs_khz: usize, lag: usize) -> usize
     requires { (fs_khz ≤ 16) × (2 ≤ lag) }
     ensures { result ≡ first_tried fs_khz lag }
 {
-    larger(lag - 2, silk_tables::least_lag(fs_khz))
+    usize::max(lag - 2, silk_tables::least_lag(fs_khz))
 }
 
 // The last lag tried.
@@ -71,7 +53,7 @@ fn end_lag(fs_khz: usize, lag: usize) -> usize
     requires { (8 ≤ fs_khz) × ((fs_khz ≤ 16) × (lag ≤ 288)) }
     ensures { result ≡ last_tried fs_khz lag }
 {
-    smaller(lag + 2, silk_tables::greatest_lag(fs_khz))
+    usize::min(lag + 2, silk_tables::greatest_lag(fs_khz))
 }
 
 // A pair's numbers added up over the subframes.
@@ -110,7 +92,7 @@ fn in_reach(by: PairSearch, d: usize, j: usize) -> bool
         <= silk_tables::greatest_lag(by.fs) as i32
 }
 
-// One pair more. Its reach is looked at last: few pairs score higher than the best so far.
+// One pair more, and none where its quotient is taken and has divisor zero. Its reach is looked at last: few pairs score higher than the best so far.
 fn consider(
     best: BestSoFar,
     cross_corr: i32,
@@ -119,33 +101,31 @@ fn consider(
     by: PairSearch,
     d: usize,
     j: usize,
-) -> SearchState
+) -> Option<BestSoFar>
     requires pos_bound { (pos 0 ≤ℤ contour_bias_q15) × (contour_bias_q15 ≤ℤ pos 68) }
     requires tried_pair { TriedPair by d j }
     ensures { result ≡ with_pair best cross_corr energy contour_bias_q15 d j (reached by.fs by.nb d j) }
 {
     if cross_corr > 0 {
-        let Quotient::Value(q) = silk_div32_varq(cross_corr, energy, 14) else {
-            return SearchState::Stopped;
-        };
+        let q = silk_div32_varq(cross_corr, energy, 14)?;
         let cc_max_new = mark_down(q, contour_bias_q15, j);
         let top = best.top;
         if cc_max_new > top {
             if in_reach(by, d, j) {
-                return SearchState::Going(BestSoFar {
+                return Some(BestSoFar {
                     top: cc_max_new,
                     lag: d,
                     contour: j,
                 });
             }
         }
-        SearchState::Going(best)
+        Some(best)
     } else {
-        SearchState::Going(best)
+        Some(best)
     }
 }
 
-// All contours of the lag d.
+// All contours of the lag d, and none where a quotient that is taken has divisor zero.
 fn scan_contours(
     best: BestSoFar,
     cross_corr_st3: &[[[i32; 5]; 34]; 4],
@@ -154,7 +134,7 @@ fn scan_contours(
     contour_bias_q15: i32,
     by: PairSearch,
     d: usize,
-) -> SearchState
+) -> Option<BestSoFar>
     requires scanned { Scanned contour_bias_q15 by }
     requires lag_bound { (first_tried by.fs by.lag ≤ d) × (d ≤ last_tried by.fs by.lag) }
     requires best_of_first { BestOfFirst (array_choice cross_corr_st3.now energies_st3.now energy_target by) ((d - first_tried by.fs by.lag) * in_use by.nb by.complexity) best }
@@ -166,32 +146,21 @@ fn scan_contours(
     for j in 0..nb_cbk_search {
         let cross_corr = sum_subframes(0, cross_corr_st3, by.nb, j, lag_counter);
         let energy = sum_subframes(energy_target, energies_st3, by.nb, j, lag_counter);
-        let SearchState::Going(next) = consider(
-            now_best,
-            cross_corr,
-            energy,
-            contour_bias_q15,
-            by,
-            d,
-            j,
-        ) else {
-            return SearchState::Stopped;
-        };
-        now_best = next;
+        now_best = consider(now_best, cross_corr, energy, contour_bias_q15, by, d, j)?;
     }
-    SearchState::Going(now_best)
+    Some(now_best)
 }
 
-// All lags near the winner, rising.
+// All lags near the winner, rising; none where a quotient that is taken has divisor zero.
 fn scan_lags(
     cross_corr_st3: &[[[i32; 5]; 34]; 4],
     energies_st3: &[[[i32; 5]; 34]; 4],
     energy_target: i32,
     contour_bias_q15: i32,
     by: PairSearch,
-) -> Found
+) -> Option<LagContour>
     requires { Scanned contour_bias_q15 by }
-    ensures { result ≡ pick (array_choice cross_corr_st3.now energies_st3.now energy_target by) }
+    ensures { answer_of result ≡ pick (array_choice cross_corr_st3.now energies_st3.now energy_target by) }
 {
     let lag = by.lag;
     let first = start_lag(by.fs, lag);
@@ -202,7 +171,7 @@ fn scan_lags(
         contour: 0,
     };
     for d in first..end {
-        let SearchState::Going(next) = scan_contours(
+        best = scan_contours(
             best,
             cross_corr_st3,
             energies_st3,
@@ -210,15 +179,12 @@ fn scan_lags(
             contour_bias_q15,
             by,
             d,
-        ) else {
-            return Found::ZeroDivisor;
-        };
-        best = next;
+        )?;
     }
-    Found::Pair {
+    Some(LagContour {
         lag: best.lag,
         contour: best.contour,
-    }
+    })
 }
 
 // The energy of all subframes, and 1.
@@ -230,32 +196,26 @@ fn target_energy(frame: &[i16], nb_subfr: usize, fs_khz: usize) -> i32
     wrapping_add_i32(energy_from(frame, 20 * fs_khz, nb_subfr * sf_length), 1)
 }
 
-// Stage 3 for a working frame and the winner of stage 2 scaled to its rate: the pair of a lag and a contour, or a zero divisor.
-pub fn search_stage3(
-    frame: &[i16],
-    lag: usize,
-    nb_subfr: usize,
-    complexity: usize,
-    fs_khz: usize,
-) -> Found
-    requires { Handed frame.now fs_khz nb_subfr complexity lag }
-    ensures value { result ≡ stage3 frame.now fs_khz nb_subfr complexity lag }
-    ensures result_value { found_numbers result ≡ answer_numbers (stage3_verdict frame.now fs_khz nb_subfr complexity lag) (stage3_values frame.now fs_khz nb_subfr complexity lag) }
+// Stage 3 for a working frame and the winner of stage 2 scaled to its rate: the pair of a lag and a contour, and none where a divisor that is reached is zero.
+pub fn search_stage3(frame: &[i16], lag: usize, s: Settings) -> Option<LagContour>
+    requires { Handed frame.now s.rate s.nb s.complexity lag }
+    ensures value { answer_of result ≡ stage3 frame.now s.rate s.nb s.complexity lag }
+    ensures numbers { found_numbers (answer_of result) ≡ answer_numbers (stage3_verdict frame.now s.rate s.nb s.complexity lag) (stage3_values frame.now s.rate s.nb s.complexity lag) }
 {
-    let first = start_lag(fs_khz, lag);
-    let cross_corr_st3 = silk_p_ana_calc_corr_st3(frame, first, nb_subfr, complexity, fs_khz);
-    let energies_st3 = silk_p_ana_calc_energy_st3(frame, first, nb_subfr, complexity, fs_khz);
+    let first = start_lag(s.rate, lag);
+    let cross_corr_st3 = silk_p_ana_calc_corr_st3(frame, first, s.nb, s.complexity, s.rate);
+    let energies_st3 = silk_p_ana_calc_energy_st3(frame, first, s.nb, s.complexity, s.rate);
     let contour_bias_q15 = silk_div32_16(1638, lag as i32);
-    let energy_target = target_energy(frame, nb_subfr, fs_khz);
+    let energy_target = target_energy(frame, s.nb, s.rate);
     scan_lags(
         &cross_corr_st3,
         &energies_st3,
         energy_target,
         contour_bias_q15,
         PairSearch {
-            fs: fs_khz,
-            nb: nb_subfr,
-            complexity,
+            fs: s.rate,
+            nb: s.nb,
+            complexity: s.complexity,
             lag,
         },
     )

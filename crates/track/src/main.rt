@@ -5,7 +5,7 @@ use recording_head::Head;
 use track_printer::print_track;
 
 fn main(rt: HostRuntime) {
-    print_track(
+    let _ = print_track(
         &mut rt.stdin(),
         &mut rt.stdout(),
         &mut rt.stderr(),

@@ -86,10 +86,3 @@ pub fn track_text(
         Recording::Taken(k, n) => put_report(k, &samples[..n], table, out),
     }
 }
-
-// Room for the longest text. The `ensures` gives only the length, so that nothing unfolds the zeros.
-pub fn text_room() -> [u8; LONGEST_TEXT]
-    ensures { longest_text ≡ length result }
-{
-    [0; LONGEST_TEXT]
-}

@@ -28,7 +28,7 @@ loop-i-preserved c =
     let e = c.loop-i.invariant.1.1 in
     let under : (j : ℕ) → j < i → get_or c.loop-i.x j (pos 0) ≡ get_or l j (pos 0) =
     λ j h. ap (λ (t : List ℤ). get_or t j (pos 0)) e ∙ from_below f i a.n l j (pos 0) h (omega arith) in
-    let s = c.silk_add_sat16-sum.result in
+    let s = c.silk_add_sat16.result in
     let r : to_z w16 (of_z w16 s) ≡ sat w16 (get_or c.loop-i.x (i - 1) (pos 0) +ℤ get_or c.loop-i.x (i - 1 - 1) (pos 0)) = search zneeds in
     let v = r ∙ ap₂ (λ (p q : ℤ). sat w16 (p +ℤ q)) (under (i - 1) (omega arith)) (under (i - 1 - 1) (omega arith)) ∙ sym (two_tap_at (sample l) (i - 1) (omega arith)) in (
       omega arith,

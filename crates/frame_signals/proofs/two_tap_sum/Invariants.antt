@@ -9,6 +9,3 @@ use Rattle.frame_signals.proofs.two_tap_sum.Given as goal
 
 abbrev pub invariant-loop-i : goal.invariant-loop-i
 invariant-loop-i l = (l.i ≤ l.n) × ((length l.x ≡ length l.initial.x) × (l.x ≡ filled_from (two_tap (sample l.initial.x)) l.i l.n l.initial.x))
-
-abbrev pub decreases-loop-i : goal.decreases-loop-i
-decreases-loop-i l = l.i

@@ -4,11 +4,8 @@ use Rattle.recording_io.specs.ReadAnswer.{most_reads}
 use Rattle.frames.specs.Output.{frames_output, FrontPrinted}
 use Rattle.frames.proofs.print_frames.Given as goal
 
-abbrev pub invariant-loop-records : goal.invariant-loop-records
-invariant-loop-records g l = record {
-  counted : l.records ≤ most_reads;
-  printed : IfSome (g.R.Read.remaining l.initial.input) (λ xs. FrontPrinted (most_reads - l.records) (frames_output most_reads xs) (g.W.Write.contents l.initial.output) (g.W.Write.contents l.output) (g.R.Read.remaining l.input));
+abbrev pub invariant-loop : goal.invariant-loop
+invariant-loop g l = record {
+  counted : l.counter ≤ most_reads;
+  printed : IfSome (g.R.Read.remaining l.initial.input) (λ xs. FrontPrinted (most_reads - l.counter) (frames_output most_reads xs) (g.W.Write.contents l.initial.output) (g.W.Write.contents l.output) (g.R.Read.remaining l.input));
 }
-
-abbrev pub decreases-loop-records : goal.decreases-loop-records
-decreases-loop-records g l = most_reads - l.records

@@ -11,16 +11,15 @@ use Rattle.pitch_input.specs.InputLaws.{samples_filled}
 use Rattle.pitch_input.proofs.load_samples.Goals as goal
 
 pub loop-i-init : goal.loop-i-init
-loop-i-init c = (omega arith, refl, filled_none _ _)
+loop-i-init c = (refl, filled_none _ _)
 
 pub loop-i-preserved : goal.loop-i-preserved
 loop-i-preserved c =
     let l = c.loop-i in
     let a = c.args in
     let v = (r_got w16 c.sample_at.type_inv c.sample_at.ensures).val in (
-      omega arith,
-      simp length-set l.invariant.1,
-      filled_turn (λ (k : ℕ). sample_at a.bytes.now (a.at + 2 * k)) l.i a.out.now l.invariant.2 v (omega arith),
+      simp length-set l.invariant.0,
+      filled_turn (λ (k : ℕ). sample_at a.bytes.now (a.at + 2 * k)) l.i a.out.now l.invariant.1 v (omega arith),
     )
 
 pub returns : goal.returns
@@ -28,6 +27,6 @@ returns c =
     let a = c.args in
     let l = c.loop-i in
     let e : l.i ≡ length a.out.now = omega arith in
-    l.invariant.2
+    l.invariant.1
     ∙ samples_filled a.bytes.now a.at l.i a.out.now (sym e)
     ∙ ap (samples_from a.bytes.now a.at) e

@@ -1,6 +1,6 @@
 -- The invariants of `load_samples`.
 use mathlib.Core.Path.{◌≡◌}
-use Prim.Native.Nat.{ℕ, ◌+◌, ◌-◌, ◌*◌, ◌≤◌}
+use Prim.Native.Nat.{ℕ, ◌+◌, ◌*◌}
 use lib.ListN.{length}
 use Rattle.lists.specs.Fill.{filled}
 use Rattle.pitch_input.specs.Input.{sample_at}
@@ -8,7 +8,4 @@ use Rattle.pitch_input.proofs.load_samples.Given as goal
 
 abbrev pub invariant-loop-i : goal.invariant-loop-i
 invariant-loop-i l =
-    (l.i ≤ length l.initial.out) × (length l.out ≡ length l.initial.out) × (l.out ≡ filled (λ (k : ℕ). sample_at l.bytes (l.at + 2 * k)) l.i l.initial.out)
-
-abbrev pub decreases-loop-i : goal.decreases-loop-i
-decreases-loop-i l = length l.initial.out - l.i
+    (length l.out ≡ length l.initial.out) × (l.out ≡ filled (λ (k : ℕ). sample_at l.bytes (l.at + 2 * k)) l.i l.initial.out)

@@ -1,57 +1,49 @@
 -- `pitch_sheet::read_sheet` meets its contract.
-use mathlib.Core.Path.{◌≡◌, sym, ap, ◌∙◌}
-use mathlib.Core.List.{◌++◌}
-use Prim.Native.Nat.{ℕ, ◌*◌, ◌≤◌}
-use native.Mathlib.Omega.{arith}
-use lib.ListN.{drop}
-use Rattle.sheet_page.specs.declared.Head.{Head}
-use Rattle.sheet_page.specs.Page.{frames_in, page_no, rows_in, numbers_of}
-use Rattle.sheet_page.specs.PageLaws.{good_tests}
-use Rattle.pitch_sheet.specs.declared.Got.TheVariants.{Read, Refused as NotRead}
-use Rattle.pitch_sheet.specs.Calls.{whole_rows, got}
-use Rattle.pitch_sheet.specs.CallsLaws.{page_sheet, read_malformed, read_short, read_done, read_answer, rows_in-length, front}
+use Rattle.std.proofs.Common.{◌≡◌, rules, sym, ◌∙◌, ap, arith, ℕ, List, ◌++◌, ◌*◌, ◌≤◌, drop}
+use Rattle.std.specs.Prelude.{Result, Ok, Err}
+use Rattle.refusals.specs.RefusalsLaws.{number_positive}
+use Rattle.pitch_settings.specs.declared.Settings.{Settings}
 use Rattle.pitch_table.specs.Row.{row_size}
+use Rattle.sheet_page.specs.Page.{sheet_settings, frames_in, rows_in, numbers_of}
+use Rattle.std.proofs.lemmas.List.Edits.{sets}
+use Rattle.pitch_sheet.specs.Calls.{whole_rows, got, told_read}
+use Rattle.pitch_sheet.specs.CallsLaws.{read_malformed, read_short, read_done, read_answer, rows_in-length, front}
 use Rattle.pitch_sheet.proofs.read_sheet.Goals as goal
-use Rattle.pitch_sheet.proofs.read_sheet.Goals.{Else-no-ne0, After-head_of-h}
+use Rattle.pitch_sheet.proofs.read_sheet.Goals.{In_ok-sheet}
 
-sound : (c : Else-no-ne0) → page_no c.args.page.now ≡ 0
-sound c = sym c.page_no-no.ensures ∙ c.if-no-ne0.false
+module _ (c : In_ok-sheet) where
+  settings_are : c.in_ok-sheet.sheet.sections.settings.settings ≡ sheet_settings c.args.page.now
+  settings_are = c.in_ok-sheet.sheet.sections.settings_read ∙ ap sheet_settings c.in_ok-sheet.ensures.page
 
-frames_are : (c : After-head_of-h) → c.head_of-h.result.frames ≡ frames_in c.args.page.now
-frames_are c = ap (λ (h : Head). h.frames) c.head_of-h.ensures
+  frames_are : c.in_ok-sheet.sheet.sections.frames ≡ frames_in c.args.page.now
+  frames_are = c.in_ok-sheet.sheet.sections.frames_read ∙ ap frames_in c.in_ok-sheet.ensures.page
 
-pub returns-then-no-ne0 : goal.returns-then-no-ne0
-returns-then-no-ne0 c =
+pub returns-in_err-sheet : goal.returns-in_err-sheet
+returns-in_err-sheet c =
     let a = c.args in
-    let e = c.page_no-no.ensures in
+    let k = c.in_err-sheet.ensures.number in
+    let r : c.from_residual.result ≡ Err c.in_err-sheet.field-0.0 = search rules in
     let h = read_answer a.page.now a.table.now
-    (ap (λ (n : ℕ). got (NotRead n) a.table.now) e ∙ sym (read_malformed a.page.now a.table.now (λ z. c.if-no-ne0.true (e ∙ z)))) in
-    record { table_after = h.0; result_value = h.1 }
+    (ap (λ (r : Result (Settings × ℕ) ℕ). got r a.table.now) (ap told_read r ∙ ap Err k)
+    ∙ sym (read_malformed a.page.now a.table.now (λ z. omega (arith, number_positive c.in_err-sheet.field-0.0, k)))) in
+    record { table_after = h.0; numbers = h.1 }
 
-pub head_of-h-requires : goal.head_of-h-requires
-head_of-h-requires c = let p = c.args.page.now in good_tests p (page_sheet p (sound (goal.at.head_of-h-requires c).Else-no-ne0))
-
-pub returns-then-table-frames : goal.returns-then-table-frames
-returns-then-table-frames c =
+pub returns-then-table-sheet : goal.returns-then-table-sheet
+returns-then-table-sheet c =
     let a = c.args in
-    let g = goal.at.returns-then-table-frames c in
-    let h = read_answer a.page.now a.table.now (sym (read_short a.page.now a.table.now (sound g.Else-no-ne0) (omega (arith, frames_are g.After-head_of-h)))) in
-    record { table_after = h.0; result_value = h.1 }
-
-pub put_rows-requires : goal.put_rows-requires
-put_rows-requires c =
-    let g = goal.at.put_rows-requires c in
-    (page_sheet c.args.page.now (sound g.Else-no-ne0), c.head_of-h.ensures, omega (arith, frames_are g.After-head_of-h))
+    let f = frames_are (goal.at.returns-then-table-sheet c).In_ok-sheet in
+    let h = read_answer a.page.now a.table.now (sym (read_short a.page.now a.table.now (sym c.in_ok-sheet.ensures.number) (omega (arith, f)))) in
+    record { table_after = h.0; numbers = h.1 }
 
 pub returns : goal.returns
 returns c =
-    let g = goal.at.returns c in
+    let i = (goal.at.returns c).In_ok-sheet in
     let p = c.args.page.now in
     let t = c.args.table.now in
-    let h = c.head_of-h.ensures in
-    let n : frames_in p ≤ whole_rows t = omega (arith, frames_are g.After-head_of-h) in
+    let f = frames_are i in
+    let n : frames_in p ≤ whole_rows t = omega (arith, f) in
     let l = rows_in-length p in
     let e : c.put_rows.new.table ≡ numbers_of (rows_in p) ++ drop (frames_in p * row_size) t =
-    c.put_rows.ensures ∙ front t (numbers_of (rows_in p)) (omega arith) ∙ ap (λ (k : ℕ). numbers_of (rows_in p) ++ drop k t) l in
-    let o = read_answer p t ((λ i. got (Read (h i).settings (h i).frames) (e i)) ∙ sym (read_done p t (sound g.Else-no-ne0) n)) in
-    record { table_after = o.0; result_value = o.1 }
+    c.put_rows.ensures ∙ ap (λ (q : List ℕ). sets t 0 (numbers_of (rows_in q))) c.in_ok-sheet.ensures.page ∙ front t (numbers_of (rows_in p)) (omega arith) ∙ ap (λ (k : ℕ). numbers_of (rows_in p) ++ drop k t) l in
+    let o = read_answer p t ((λ u. got (Ok (settings_are i u, f u)) (e u)) ∙ sym (read_done p t (sym c.in_ok-sheet.ensures.number) n)) in
+    record { table_after = o.0; numbers = o.1 }

@@ -1,7 +1,9 @@
 -- `recording_head::head_known` meets its contract.
-use mathlib.Core.Path.{sym, ap}
+use Rattle.std.proofs.Common.{sym, ap, ◌∙◌}
+use Rattle.std.specs.Result.{is_ok}
 use Rattle.recording_head.specs.declared.Head.{Head}
 use Rattle.recording_head.specs.Head.{head_known}
+use Rattle.recording_head.specs.HeadLaws.{kind_known}
 use Rattle.recording_head.proofs.head_known.Goals as goal
 
 pub returns-in-Plain : goal.returns-in-Plain
@@ -10,4 +12,5 @@ returns-in-Plain c = ap (λ (h : Head). head_known h c.args.bytes.now) (sym c.in
 
 pub returns-in-Options : goal.returns-in-Options
 unfolding head_known
-returns-in-Options c = ap (λ (h : Head). head_known h c.args.bytes.now) (sym c.in-Options.is)
+returns-in-Options c =
+    c.is_ok.ensures.value ∙ ap is_ok c.try_from.ensures ∙ kind_known _ ∙ ap (λ (h : Head). head_known h c.args.bytes.now) (sym c.in-Options.is)

@@ -1,16 +1,22 @@
 -- `recording_head::second_in` meets its contract.
-use mathlib.Core.Path.{ap}
+use Rattle.std.proofs.Common.{sym, ap, ◌∙◌}
+use Rattle.std.specs.Result.{result_unwrap_or}
 use mir.Syntax.{w32}
-use borrow.Author.Tests.{eq-eqb, ne_eqb}
 use Rattle.zint.specs.ReadLaws.{r_got}
 use Rattle.track_settings.specs.declared.SecondThreshold.TheVariants.{Fixed, FromSpeech}
+use Rattle.recording_head.specs.declared.Kind.TheVariants as kinds
 use Rattle.recording_head.specs.Head.{second_in}
+use Rattle.recording_head.specs.HeadLaws.{kind_speech, kind_fixed}
 use Rattle.recording_head.proofs.second_in.Goals as goal
 
-pub returns-then-kind-eq1 : goal.returns-then-kind-eq1
+pub returns-in-Fixed : goal.returns-in-Fixed
 unfolding second_in
-returns-then-kind-eq1 c = rw (eq-eqb _ 1 c.if-kind-eq1.true) (ap FromSpeech c.speech_in-m.ensures)
+returns-in-Fixed c =
+    let read = sym (c.unwrap_or.ensures ∙ ap (λ k. result_unwrap_or k kinds.Fixed) c.try_from.ensures) ∙ c.in-Fixed.is in
+    rw (kind_fixed c.args.number read) (ap Fixed (r_got w32 c.i32_at.type_inv c.i32_at.ensures).val)
 
-pub returns : goal.returns
+pub returns-in-FromSpeech : goal.returns-in-FromSpeech
 unfolding second_in
-returns c = rw (ne_eqb _ 1 c.if-kind-eq1.false) (ap Fixed (r_got w32 c.i32_at-thres2.type_inv c.i32_at-thres2.ensures).val)
+returns-in-FromSpeech c =
+    let read = sym (c.unwrap_or.ensures ∙ ap (λ k. result_unwrap_or k kinds.Fixed) c.try_from.ensures) ∙ c.in-FromSpeech.is in
+    rw (kind_speech c.args.number read) (ap FromSpeech c.speech_in.ensures)

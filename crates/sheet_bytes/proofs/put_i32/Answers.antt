@@ -1,12 +1,16 @@
 -- `sheet_bytes::put_i32` meets its contract.
-use Rattle.zint.specs.ReadLaws.{r_var}
-use mathlib.Core.Path.{ap, ◌∙◌}
-use Prim.Native.Nat.{ℕ}
-use lib.Seq.{sets}
-use Rattle.sheet_bytes.specs.Bytes.{low_bytes, word, signed}
+use Rattle.std.proofs.Common.{◌∙◌, ℕ, ap}
+use Rattle.std.proofs.lemmas.Int.{to_z-of_z}
+use Rattle.std.proofs.lemmas.List.Edits.{sets}
+use mir.Syntax.{w32}
+use mir.Val.{of_z}
+use Rattle.sheet_bytes.specs.Bytes.{low_bytes, signed}
+use Rattle.sheet_bytes.specs.BytesLaws.{word_is}
 use Rattle.sheet_bytes.proofs.put_i32.Goals as goal
 
 pub returns : goal.returns
-unfolding signed word
+unfolding signed
 returns c =
-    c.put_u32.ensures ∙ ap (λ (n : ℕ). sets c.args.page.now c.args.at (low_bytes 4 n)) (c.bits_u32.ensures ∙ ap word (r_var c.ranges.z).val)
+    let z = c.args.z in
+    let bits = c.cast_unsigned.ensures ∙ ap (of_z w32) (to_z-of_z w32 z c.ranges.z) ∙ word_is z c.ranges.z in
+    c.put_u32.ensures ∙ ap (λ (n : ℕ). sets c.args.page.now c.args.at (low_bytes 4 n)) bits

@@ -1,5 +1,5 @@
 -- `sheet_read::print_sheet` meets its contract: what is written first is the input's text, whatever follows the bytes that were looked at.
-use Rattle.std.proofs.Common.{◌≡◌, ltb, ℕ, zero, suc, ◌+◌, ◌<◌, ◌++◌, List, [], length, take, ℤ, Option, Some, sym, ap, ◌∙◌, subst, length-append, arith}
+use Rattle.std.proofs.Common.{◌≡◌, ltb, ℕ, zero, suc, ◌+◌, ◌<◌, ◌++◌, List, [], length, take, ℤ, Option, Some, IfSome, Result, Ok, Err, OnOk, sym, ap, ◌∙◌, subst, length-append, arith}
 use Rattle.std.specs.Io.KnownBytes.{Appends, IsAtEnd}
 use borrow.Author.Tests.{lt-ltb}
 use Rattle.lists.specs.PushLaws.{take_overwritten}
@@ -24,11 +24,22 @@ follow rest ys new (suc n) e p end =
     let long : length (rest ++ ys) ≡ suc (n + length ys) = length-append rest ys ∙ omega arith in
     ap (ltb 0) long ∙ lt-ltb 0 (suc (n + length ys)) (omega arith) ∙ sym (lt-ltb 0 (suc n) (omega arith))
 
+-- what follows from what a call left that did not fail
+on_ok : {T E P Q : Type 0} (r : Result T E) → (P → Q) → OnOk r P → OnOk r Q
+on_ok (Ok x) f p = f p
+on_ok (Err e) f p = tt
+
 pub returns : goal.returns
-returns g c = λ w.
-    let bytes = c.read_whole-got.ensures.bytes in
+returns g c =
+    let read = c.in-Ok.ensures in
+    let bytes = read.bytes in
     let rest = bytes.0 in
-    known_bytes _ _ (take c.read_whole-got.result.count c.read_whole-got.new.buf) rest _ bytes.2
+    let old = g.W.Write.contents c.args.output.now in
+    let new = g.W.Write.contents c.write_output.new.output in
+    on_ok {P = Appends old new (take c.sheet_text-r.result c.sheet_text-r.new.out)} {Q = IfSome (g.R.Read.remaining c.args.input.now) (λ xs. Appends old new (sheet_text xs))} c.write_output.result
+    (λ w.
+    known_bytes _ _ (take c.in-Ok.whole.count c.read_whole.new.buf) rest (λ xs. Appends old new (sheet_text xs)) bytes.2
     (λ ys at_ys.
-    let more = follow rest ys _ _ bytes.1 at_ys (c.read_whole-got.ensures.end c.if-got.false) in
-    subst (Appends _ _) (text_of _ _ _ _ _ _ (c.sheet_text-r.ensures.by_index (rest ++ ys) more)) (c.write_output.ensures w))
+    let more = follow rest ys _ _ bytes.1 at_ys read.end in
+    subst (Appends old new) (text_of _ _ _ _ _ _ (c.sheet_text-r.ensures.by_index (rest ++ ys) more)) w))
+    c.write_output.ensures

@@ -1,64 +1,56 @@
 -- `sheet_rows::row_of` meets its contract.
-use mathlib.Core.Path.{◌≡◌, sym, ap, ap₂, ◌∙◌}
-use Prim.Native.Nat.{ℕ, ◌<◌}
-use native.Mathlib.Omega.{arith}
-use lib.IntN.{ℤ, pos}
-use mir.Syntax.{w32}
-use mir.Val.{SFits, to_z, of_z}
-use mir.ValLaws.{to_z_pos}
+use Rattle.std.proofs.Common.{◌≡◌, refl, true, false, sym, ap, ap₂, ◌∙◌, arith, SFits, to_z, of_z}
+use Rattle.std.specs.Prelude.{ℤ, pos, ◌≤ℤ◌, Some}
+use Rattle.std.specs.Int.{w32}
+use Rattle.std.proofs.lemmas.Bool.{false≢true, false_from_ne_true}
+use Rattle.std.proofs.lemmas.Int.{ints}
 use Rattle.zint.specs.ReadLaws.{r_var}
-use Rattle.silk_tables.specs.Rebuild.{carried}
-use Rattle.pitch_settings.specs.SettingsLaws.{held_settings}
-use Rattle.sheet_rows.specs.declared.RowRead.TheVariants.{Held}
+use Rattle.pitch_settings.specs.declared.Settings.{Settings}
 use Rattle.pitch_table.specs.Row.{voiced_row, unpitched_row}
-use Rattle.sheet_rows.specs.RowsLaws.{row_voiced, row_not_carried, row_unvoiced, row_zero_divisor, row_none, row_answer}
+use Rattle.silk_tables.specs.Rebuild.{carried}
+use Rattle.sheet_rows.specs.RowsLaws.{row_voiced, row_not_carried, row_unpitched, row_none, row_answer}
 use Rattle.sheet_rows.proofs.row_of.Goals as goal
-use Rattle.sheet_rows.proofs.row_of.Goals.{After-pair_carried}
 
--- a verdict that was tested, as a number
-verdict_is : {v : ℤ} → SFits w32 v → (k : ℕ) → k < 2147483648 → of_z w32 v ≡ k → v ≡ pos k
-verdict_is f k h e = sym (r_var f).val ∙ ap (to_z w32) e ∙ to_z_pos w32 k h
+-- a pair, as it is read
+read : (s : Settings) {index contour : ℤ} → SFits w32 index → SFits w32 contour → carried s.rate s.nb s.complexity (to_z w32 (of_z w32 index)) (to_z w32 (of_z w32 contour)) ≡ carried s.rate s.nb s.complexity index contour
+read s i j = ap₂ (carried s.rate s.nb s.complexity) (r_var i).val (r_var j).val
 
-asked : (c : After-pair_carried) → c.pair_carried.result ≡ carried c.args.s.rate c.args.s.nb c.args.s.complexity c.args.index c.args.contour
-asked c =
-    c.pair_carried.ensures ∙ ap₂ (carried c.args.s.rate c.args.s.nb c.args.s.complexity) (r_var c.ranges.index).val (r_var c.ranges.contour).val
-
-pub pair_carried-requires : goal.pair_carried-requires
-pair_carried-requires c = omega (arith, (held_settings c.args.s c.requires).complexity)
-
-pub returns-then-pair_carried : goal.returns-then-pair_carried
-returns-then-pair_carried c =
+pub returns-in_err-of-in-0 : goal.returns-in_err-of-in-0
+returns-in_err-of-in-0 c =
     let a = c.args in
-    let e : c.voiced_row.result ≡ voiced_row a.s a.index a.contour a.correlation =
-    c.voiced_row.ensures ∙ simp ((r_var c.ranges.index).val, (r_var c.ranges.contour).val, (r_var c.ranges.correlation).val) in
-    let h = row_answer a.s a.verdict a.index a.contour a.correlation
-    (ap Held e ∙ sym (row_voiced a.s a.index a.contour a.correlation (verdict_is c.ranges.verdict 0 (omega arith) c.if-verdict-eq0.true) (sym (asked (goal.at.returns-then-pair_carried c).After-pair_carried) ∙ c.if-pair_carried.true))) in
-    record { value = h.0; result_value = h.1 }
+    let s = a.s.settings in
+    let v : a.verdict ≡ pos 0 = omega (arith, ints) in
+    let e : carried s.rate s.nb s.complexity a.index a.contour ≡ false = false_from_ne_true _ (λ h. absurd (false≢true (c.in_err-of-in-0.ensures.carried.1 (read s c.ranges.index c.ranges.contour ∙ h)))) in
+    let h = row_answer s a.verdict a.index a.contour a.correlation (c.from_residual.ensures ∙ sym (row_not_carried s a.index a.contour a.correlation v e)) in
+    record { value = h.0; numbers = h.1 }
 
-pub returns-then-verdict-eq0 : goal.returns-then-verdict-eq0
-returns-then-verdict-eq0 c =
+pub returns-in_ok-of-in-0 : goal.returns-in_ok-of-in-0
+returns-in_ok-of-in-0 c =
     let a = c.args in
-    let h = row_answer a.s a.verdict a.index a.contour a.correlation
-    (sym (row_not_carried a.s a.index a.contour a.correlation (verdict_is c.ranges.verdict 0 (omega arith) c.if-verdict-eq0.true) (sym (asked (goal.at.returns-then-verdict-eq0 c).After-pair_carried) ∙ c.if-pair_carried.false))) in
-    record { value = h.0; result_value = h.1 }
+    let s = a.s.settings in
+    let v : a.verdict ≡ pos 0 = omega (arith, ints) in
+    let e = c.in_ok-of-in-0.ensures in
+    let k : carried s.rate s.nb s.complexity a.index a.contour ≡ true = sym (read s c.ranges.index c.ranges.contour) ∙ e.carried.0 refl in
+    let h = row_answer s a.verdict a.index a.contour a.correlation (ap Some (c.row.ensures ∙ (λ t. voiced_row (e.settings t).settings ((e.index ∙ (r_var c.ranges.index).val) t) ((e.contour ∙ (r_var c.ranges.contour).val) t) ((r_var c.ranges.correlation).val t))) ∙ sym (row_voiced s a.index a.contour a.correlation v k)) in
+    record { value = h.0; numbers = h.1 }
 
-pub returns-then-verdict-eq1 : goal.returns-then-verdict-eq1
-returns-then-verdict-eq1 c =
+pub returns-in-1 : goal.returns-in-1
+returns-in-1 c =
     let a = c.args in
-    let h = row_answer a.s a.verdict a.index a.contour a.correlation
-    (ap Held (c.unpitched_row.ensures ∙ ap unpitched_row (r_var c.ranges.verdict).val) ∙ sym (row_unvoiced a.s a.index a.contour a.correlation (verdict_is c.ranges.verdict 1 (omega arith) c.if-verdict-eq1.true))) in
-    record { value = h.0; result_value = h.1 }
+    let s = a.s.settings in
+    let low : pos 1 ≤ℤ a.verdict = omega (arith, ints) in
+    let high : a.verdict ≤ℤ pos 2 = omega (arith, ints) in
+    let h = row_answer s a.verdict a.index a.contour a.correlation (ap Some (c.unpitched.ensures ∙ ap unpitched_row (r_var c.ranges.verdict).val) ∙ sym (row_unpitched s a.index a.contour a.correlation low high)) in
+    record { value = h.0; numbers = h.1 }
 
-pub returns-then-verdict-eq2 : goal.returns-then-verdict-eq2
-returns-then-verdict-eq2 c =
+pub returns-in_default : goal.returns-in_default
+returns-in_default c =
     let a = c.args in
-    let h = row_answer a.s a.verdict a.index a.contour a.correlation
-    (ap Held (c.unpitched_row-then-verdict-eq2.ensures ∙ ap unpitched_row (r_var c.ranges.verdict).val) ∙ sym (row_zero_divisor a.s a.index a.contour a.correlation (verdict_is c.ranges.verdict 2 (omega arith) c.if-verdict-eq2.true))) in
-    record { value = h.0; result_value = h.1 }
+    let h = row_answer a.s.settings a.verdict a.index a.contour a.correlation (sym (row_none a.s.settings a.index a.contour a.correlation (λ e. omega (arith, ints)) (λ e. omega (arith, ints)) (λ e. omega (arith, ints)))) in
+    record { value = h.0; numbers = h.1 }
 
-pub returns : goal.returns
-returns c =
+pub returns-in_default-2 : goal.returns-in_default-2
+returns-in_default-2 c =
     let a = c.args in
-    let h = row_answer a.s a.verdict a.index a.contour a.correlation
-    (sym (row_none a.s a.index a.contour a.correlation (λ e. c.if-verdict-eq0.false (ap (of_z w32) e)) (λ e. c.if-verdict-eq1.false (ap (of_z w32) e)) (λ e. c.if-verdict-eq2.false (ap (of_z w32) e)))) in
-    record { value = h.0; result_value = h.1 }
+    let h = row_answer a.s.settings a.verdict a.index a.contour a.correlation (sym (row_none a.s.settings a.index a.contour a.correlation (λ e. omega (arith, ints)) (λ e. omega (arith, ints)) (λ e. omega (arith, ints)))) in
+    record { value = h.0; numbers = h.1 }

@@ -14,20 +14,20 @@ use Rattle.sheet_sections.specs.Sheet.{concat}
 use Rattle.sheet_sections.specs.SheetLaws.{signed_first, put_signed}
 use Rattle.sheet_sections.proofs.put_numbers.Goals as goal
 
-pub loop-i-init : goal.loop-i-init
+pub loop-number-init : goal.loop-number-init
 unfolding concat
-loop-i-init c = (omega arith, refl, omega arith, put_none c.args.page.now c.args.at)
+loop-number-init c = (omega arith, refl, omega arith, put_none c.args.page.now c.args.at)
 
-pub loop-i-preserved : goal.loop-i-preserved
-loop-i-preserved c =
-    let l = c.loop-i in
+pub loop-number-preserved : goal.loop-number-preserved
+loop-number-preserved c =
+    let l = c.loop-number in
     let numbers = c.args.numbers.now in
-    let z : to_z w32 (of_z w32 (get_or numbers l.i (pos 0))) ≡ get_or numbers l.i (pos 0) = search zneeds in
-    (omega arith, c.put_i32.auto.page ∙ l.invariant.1, omega arith, put_signed numbers l.i (omega arith) l.invariant.3 c.put_i32.ensures z)
+    let z : to_z w32 (of_z w32 (get_or numbers l.number-index (pos 0))) ≡ get_or numbers l.number-index (pos 0) = search zneeds in
+    (omega arith, c.put_i32.auto.page ∙ l.invariant.1, omega arith, put_signed numbers l.number-index (omega arith) l.invariant.3 c.put_i32.ensures z)
 
 pub returns : goal.returns
 returns c =
-    let l = c.loop-i in
+    let l = c.loop-number in
     let numbers = c.args.numbers.now in
-    let e : l.i ≡ length numbers = omega arith in
+    let e : l.number-index ≡ length numbers = omega arith in
     put_as l.invariant.3 (ap (signed_first numbers) e ∙ ap (λ (zs : List ℤ). concat (map signed zs)) (take-length numbers))

@@ -7,6 +7,6 @@ use Rattle.sheet_sections.specs.Sheet.{setting_bytes}
 use Rattle.sheet_sections.specs.SheetLaws.{signed_first}
 use Rattle.sheet_sections.proofs.put_numbers.Given as goal
 
-abbrev pub invariant-loop-i : goal.invariant-loop-i
-invariant-loop-i l =
-    (l.i ≤ length l.numbers) × (length l.page ≡ length l.initial.page) × (l.end ≡ l.at + setting_bytes * l.i) × Put l.initial.page l.at (signed_first l.numbers l.i) l.end l.page
+abbrev pub invariant-loop-number : goal.invariant-loop-number
+invariant-loop-number l =
+    (l.number-index ≤ length l.numbers) × (length l.page ≡ length l.initial.page) × (l.end ≡ l.at + setting_bytes * l.number-index) × Put l.initial.page l.at (signed_first l.numbers l.number-index) l.end l.page

@@ -12,4 +12,4 @@ pub returns : goal.returns
 unfolding section setting_numbers
 returns c =
     put_then (put_word c.put_u32.ensures refl)
-    (put_as c.put_numbers.ensures (ap (λ (zs : List ℤ). concat (map signed zs)) c.setting_numbers-numbers.ensures))
+    (put_as c.put_numbers.ensures (ap (λ (zs : List ℤ). concat (map signed zs)) c.setting_numbers.ensures))

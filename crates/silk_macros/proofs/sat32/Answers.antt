@@ -1,19 +1,13 @@
--- `silk_macros::sat32` meets its contract: a branch for each side of the range, and one within it.
+-- `silk_macros::sat32` meets its contract: std's `clamp`, in the words of `sat`.
+use Rattle.std.proofs.Common.{ℤ, pos, negsuc, ap, ◌∙◌}
+use Rattle.std.specs.Int.{w32, w64, int_min, int_max}
 use Rattle.zint.specs.Clamp.{sat}
-use Rattle.zint.specs.RuleLaws.{zneeds}
+use Rattle.zint.specs.ClampLaws.{clamp_of_std, sat_fits}
+use Rattle.zint.specs.ReadLaws.{r_var, r_got, r_cast}
 use Rattle.silk_macros.proofs.sat32.Goals as goal
 
-pub returns-then-x-gt2147483647 : goal.returns-then-x-gt2147483647
+pub returns : goal.returns
 unfolding sat
-returns-then-x-gt2147483647 c = search zneeds depth 8
-
-pub returns-then-x-ltminus2147483648 : goal.returns-then-x-ltminus2147483648
-unfolding sat
-returns-then-x-ltminus2147483648 c = search zneeds depth 8
-
-pub returns-else-x-ltminus2147483648 : goal.returns-else-x-ltminus2147483648
-unfolding sat
-returns-else-x-ltminus2147483648 c = search zneeds depth 8
-
-pub overflow_cast-result : goal.overflow_cast-result
-overflow_cast-result c = search zneeds
+returns c =
+    let e = c.clamp.ensures.value ∙ ap (λ (y : ℤ). int_max (negsuc 2147483647) (int_min y (pos 2147483647))) (r_var c.ranges.x).val ∙ clamp_of_std (negsuc 2147483647) (pos 2147483647) c.args.x (record { le = tt }) in
+    (r_cast (r_got w64 c.clamp.type_inv e) (sat_fits w32 c.args.x)).val

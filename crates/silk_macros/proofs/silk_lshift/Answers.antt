@@ -1,12 +1,10 @@
 -- `silk_macros::silk_lshift` meets its contract.
-use Rattle.zint.specs.RuleLaws.{zneeds}
+use Rattle.std.proofs.Common.{ℤ, ◌%◌, ap, ◌∙◌}
+use Rattle.std.specs.Int.{w32, int_shl}
+use Rattle.zint.specs.ReadLaws.{r_var, r_got}
+use Rattle.zint.specs.WrapLaws.{shl_of_std}
 use Rattle.silk_macros.proofs.silk_lshift.Goals as goal
 
-pub overflow_cast-result : goal.overflow_cast-result
-overflow_cast-result c = search zneeds
-
-pub overflow_shl-result : goal.overflow_shl-result
-overflow_shl-result c = search zneeds
-
 pub returns : goal.returns
-returns c = search zneeds
+returns c =
+    (r_got w32 c.wrapping_shl.type_inv (c.wrapping_shl.ensures ∙ ap (λ (x : ℤ). int_shl w32 x (c.args.shift % 32)) (r_var c.ranges.a).val ∙ shl_of_std w32 c.args.a (c.args.shift % 32) c.ranges.a)).val

@@ -1,8 +1,7 @@
 -- `silk_macros::silk_rshift_round` meets its contract, branch by branch.
 use mathlib.Core.Bool.{false}
 use mathlib.Core.Path.{◌≡◌, refl, ap, ◌∙◌}
-use Prim.Native.Nat.{ℕ, ◌-◌, ◌^◌, ◌<◌}
-use native.Mathlib.Omega.{arith}
+use Prim.Native.Nat.{ℕ, ◌-◌, ◌%◌, ◌^◌, ◌<◌}
 use lib.Dec.{lit<, lit≤}
 use lib.IntN.{ℤ, pos, nat_abs, ◌-ℤ◌, ◌*ℤ◌}
 use lib.Signed.{shr_z, le_z, ◌<ℤ◌}
@@ -11,23 +10,23 @@ use mir.Val.{to_z, of_z}
 use mir.ValLaws.{to_z-of_z}
 use Rattle.zint.specs.BoundLaws.{abs_ud}
 use Rattle.zint.specs.DiffLaws.{v, n, ◌⊖◌, le_of, sfits_by, positive_dn, zarith}
-use Rattle.zint.specs.ReadLaws.{Reads, r_var, r_lit, r_as, r_add, r_shl, r_shr, r_mask, f_add, fit_as, t_le}
+use Rattle.zint.specs.ReadLaws.{Reads, r_var, r_lit, r_as, r_add, r_shr, r_mask, r_got, f_add, fit_as, t_le}
 use Rattle.zint.specs.ShiftLaws.{amount, pred_abs}
 use Rattle.zint.specs.TestLaws.{le_false, sel_yes, sel_no}
 use Rattle.zint.specs.RuleLaws.{zneeds}
 use Rattle.zint.specs.Wrap.{wrap, mod_z}
-use Rattle.zint.specs.WrapLaws.{mod_z_lt}
+use Rattle.std.specs.Int.{int_shl, int_wrapping_neg}
+use Rattle.zint.specs.WrapLaws.{mod_z_lt, mod_z_is, mod_z_cong, mod_part, cong_trans, cong_sym, cong_part, wrap_cong, read_mod, shl_of_std, neg_of_std}
 use Rattle.silk_macros.specs.Macros.{rshift_round}
 use Rattle.silk_macros.specs.MacroLaws.{round_fits}
 use Rattle.silk_macros.proofs.silk_rshift_round.Goals as goal
 
--- to the left
-module _ (c : goal.After-negated_amount) where
-  by : c.negated_amount.result ≡ mod_z (pos 0 -ℤ c.args.shift) 32
-  by = c.negated_amount.ensures ∙ ap (λ (x : ℤ). mod_z (pos 0 -ℤ x) 32) (r_var c.ranges.shift).val
-
-  by-lt : c.negated_amount.result < 32
-  by-lt = omega (arith, by, mod_z_lt (pos 0 -ℤ c.args.shift) 32 (lit< tt))
+-- to the left: the bits of -s, of which the machine takes five
+negated : (s y : ℤ) (u : ℕ) → y ≡ wrap w32 (pos 0 -ℤ s) → u ≡ mod_z y (2 ^ 32) → u % 32 ≡ mod_z (pos 0 -ℤ s) 32
+negated s y u e f =
+    let z = pos 0 -ℤ s in
+    ap (λ (k : ℕ). k % 32) (f ∙ ap (λ (x : ℤ). mod_z x (2 ^ 32)) e) ∙ mod_part (wrap w32 z) 32 (2 ^ 27) (lit< tt) (lit< tt)
+    ∙ mod_z_is (wrap w32 z) 32 (mod_z z 32) (mod_z_lt z 32 (lit< tt)) (cong_trans (mod_z_cong z 32 (lit< tt)) (cong_sym (cong_part 32 (2 ^ 27) (wrap_cong w32 z))))
 
 -- between the two
 module _ (c : goal.Else-shift-ge31) where
@@ -55,16 +54,14 @@ module _ (c : goal.Else-shift-ge31) where
   whole : Reads w32 (of_z w32 (shr_z (to_z w32 (of_z w32 c.args.a)) (2 ^ of_z w32 c.args.shift))) (shr_z c.args.a (2 ^ nat_abs c.args.shift))
   whole = r_as (r_shr (2 ^ of_z w32 c.args.shift) (r_var c.ranges.a)) (ap (λ (k : ℕ). shr_z c.args.a (2 ^ k)) at)
 
-pub overflow_cast-result : goal.overflow_cast-result
-overflow_cast-result c = record { sfits = omega (arith, by-lt c) }
-
-pub overflow_shl-result : goal.overflow_shl-result
-overflow_shl-result c = by-lt c
-
 pub returns-then-shift-le0 : goal.returns-then-shift-le0
 returns-then-shift-le0 c =
-    let r = r_as (r_shl (2 ^ c.negated_amount.result) (r_var c.ranges.a)) (ap (λ (k : ℕ). wrap w32 (c.args.a *ℤ pos (2 ^ k))) (by c)) in
-    sel_yes _ _ _ _ (t_le (r_var c.ranges.shift) (r_lit w32 0 tt) c.if-shift-le0.true) r.val
+    let k = c.cast_unsigned.result % 32 in
+    let y = c.wrapping_neg.ensures ∙ ap (int_wrapping_neg w32) (r_var c.ranges.shift).val ∙ neg_of_std w32 c.args.shift c.ranges.shift in
+    let s = negated c.args.shift c.wrapping_neg.result c.cast_unsigned.result y (c.cast_unsigned.ensures ∙ read_mod w32 c.wrapping_neg.result (record { sfits = c.wrapping_neg.type_inv })) in
+    let e = c.wrapping_shl.ensures ∙ ap (λ (x : ℤ). int_shl w32 x k) (r_var c.ranges.a).val ∙ shl_of_std w32 c.args.a k c.ranges.a in
+    sel_yes _ _ _ _ (t_le (r_var c.ranges.shift) (r_lit w32 0 tt) c.if-shift-le0.true)
+    (r_got w32 c.wrapping_shl.type_inv (e ∙ ap (λ (j : ℕ). wrap w32 (c.args.a *ℤ pos (2 ^ j))) s)).val
 
 pub returns-then-shift-ge31 : goal.returns-then-shift-ge31
 returns-then-shift-ge31 c =
@@ -95,6 +92,3 @@ returns c =
     let r = r_add (whole c) (r_mask 1 2147483648 refl (lit≤ tt) (r_as (r_shr _ (r_var c.ranges.a)) (ap (λ (k : ℕ). shr_z c.args.a (2 ^ k)) (at_1 c))))
     (round_fits (nat_abs c.args.shift) (size c) c.ranges.a) in
     sel_no _ _ _ _ (not_left c) (sel_no _ _ _ _ (not-out c) r.val)
-
-pub negated_amount-requires : goal.negated_amount-requires
-negated_amount-requires c = search zneeds

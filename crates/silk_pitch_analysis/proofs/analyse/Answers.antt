@@ -6,17 +6,14 @@ use native.Mathlib.Omega.{arith}
 use lib.IntN.{ℤ}
 use lib.ListN.{length, take}
 use lib.Seq.{length-take-le}
-use Rattle.std.specs.Int.{w32}
-use Rattle.std.proofs.Common.{SFits, to_z, of_z}
-use Rattle.zint.specs.ReadLaws.{r_var}
 use Rattle.lists.specs.Fill.{filled}
 use Rattle.pitch_settings.specs.declared.Settings.{Settings}
 use Rattle.pitch_settings.specs.Settings.{frame_length}
 use Rattle.pitch_settings.specs.SettingsLaws.{accepted_settings}
 use Rattle.frame_signals.specs.Scale.{scaled, down_shift, shifted_at, moved_count, holder}
 use Rattle.frame_signals.specs.ScaleLaws.{length_scaled, working_scaled}
-use Rattle.silk_pitch_analysis.specs.declared.Verdict.{Verdict}
 use Rattle.silk_pitch_analysis.specs.Frame.{staged, verdict_of}
+use Rattle.silk_pitch_analysis.specs.declared.Verdict.{Verdict}
 use Rattle.silk_pitch_analysis.specs.Steps.{VerdictCarried}
 use Rattle.silk_pitch_analysis.specs.VerdictLaws.{first_carried}
 use Rattle.silk_pitch_analysis.proofs.analyse.Goals as goal
@@ -44,15 +41,14 @@ analyse_working-requires c =
     let e = working c.args.s.settings c.args.frame.now _ c.frame_length-n.result (omega (arith, c.frame_length-n.ensures, c.requires)) c.frame_length-n.ensures c.frame_shift-shift.ensures.0 c.scale_into.ensures c.working_frame-w.ensures in
     ap length e ∙ length_scaled (take (frame_length c.args.s.settings) c.args.frame.now) ∙ length-take-le (frame_length c.args.s.settings) c.args.frame.now c.requires
 
--- the verdict of the working frame, of the numbers as the code hands them on
-verdict : (s : Settings) (x : List ℤ) {w : List ℤ} {prev corr : ℤ} {v : Verdict} → SFits w32 prev → SFits w32 corr → w ≡ scaled (take (frame_length s) x)
-    → v ≡ staged s w (to_z w32 (of_z w32 prev)) (to_z w32 (of_z w32 corr)) → v ≡ verdict_of s (take (frame_length s) x) prev corr
+-- the verdict of the working frame
+verdict : (s : Settings) (x : List ℤ) {w : List ℤ} (prev corr : ℤ) {v : Verdict} → w ≡ scaled (take (frame_length s) x) → v ≡ staged s w prev corr → v ≡ verdict_of s (take (frame_length s) x) prev corr
 unfolding verdict_of
-verdict s x p q e h = h ∙ (λ i. staged s (e i) ((r_var p).val i) ((r_var q).val i))
+verdict s x prev corr e h = h ∙ (λ i. staged s (e i) prev corr)
 
 pub returns : goal.returns
 returns c =
     let a = c.args in
     let w = working a.s.settings a.frame.now _ c.frame_length-n.result (omega (arith, c.frame_length-n.ensures, c.requires)) c.frame_length-n.ensures c.frame_shift-shift.ensures.0 c.scale_into.ensures c.working_frame-w.ensures in
-    let v = verdict a.s.settings a.frame.now c.ranges.prev_lag c.ranges.prev_corr w c.analyse_working.ensures in
-    record { verdict = v; carried = subst (VerdictCarried a.s.settings) (sym v) (first_carried a.s.settings a.frame.now a.s.analysed c.requires a.prev_lag a.prev_corr) }
+    let v = verdict a.s.settings a.frame.now a.prev.lag a.prev.correlation w c.analyse_working.ensures in
+    record { verdict = v; carried = subst (VerdictCarried a.s.settings) (sym v) (first_carried a.s.settings a.frame.now a.s.analysed c.requires a.prev.lag a.prev.correlation) }

@@ -5,7 +5,6 @@ use Prim.Native.Nat.{◌+◌, ◌*◌}
 use native.Mathlib.Omega.{arith}
 use lib.IntN.{ℤ, pos}
 use lib.ListN.{length, take, replicate}
-use Rattle.zint.specs.ReadLaws.{r_var}
 use Rattle.lists.specs.Fill.{overwritten}
 use Rattle.pitch_settings.specs.declared.Settings.{Settings}
 use Rattle.pitch_settings.specs.Settings.{settings_no, frame_length}
@@ -16,6 +15,9 @@ use Rattle.frame_signals.specs.Signals.{down_to_8khz, down_to_4khz}
 use Rattle.frame_signals.specs.SignalLaws.{take_overwritten}
 use Rattle.stage1.specs.Stage1.{stage1}
 use Rattle.silk_pitch_analysis.specs.declared.Verdict.{Verdict}
+use Rattle.std.specs.Prelude.{Result, Ok, Err, MatchResult}
+use Rattle.answers.specs.declared.NoPitch.{NoPitch}
+use Rattle.silk_pitch_analysis.specs.Steps.{verdict_without, verdict_from}
 use Rattle.silk_pitch_analysis.specs.Frame.{signal8, signal4, from_screen, staged}
 use Rattle.silk_pitch_analysis.specs.FrameLaws.{eight_length, four_length, at_12}
 use Rattle.silk_pitch_analysis.proofs.analyse_working.Goals as goal
@@ -54,10 +56,9 @@ overflow_mul-n4-2 c = omega (arith, (accepted_settings _ c.args.s.analysed).nb_h
 pub frame_8khz-requires : goal.frame_8khz-requires
 frame_8khz-requires c =
     let a = c.args in
-    let f = c.source_filter.ensures in
     let l : length (down_to_8khz c.source_filter.result a.s.settings.rate a.w.now) ≡ (20 + 5 * a.s.settings.nb) * 8 =
-    ap (λ (F : Filter). length (down_to_8khz F a.s.settings.rate a.w.now)) f.0 ∙ eight_length a.s.settings a.w.now c.args.s.analysed c.requires in
-    (omega (arith, l, (accepted_settings _ c.args.s.analysed).nb_high), (at_12 a.s.settings a.w.now c.args.s.analysed c.requires, f.1))
+    ap (λ (F : Filter). length (down_to_8khz F a.s.settings.rate a.w.now)) c.source_filter.ensures ∙ eight_length a.s.settings a.w.now c.args.s.analysed c.requires in
+    (omega (arith, l, (accepted_settings _ c.args.s.analysed).nb_high), at_12 a.s.settings a.w.now c.args.s.analysed c.requires)
 
 pub slice_bounds-buf_8khz-end : goal.slice_bounds-buf_8khz-end
 slice_bounds-buf_8khz-end c = omega (arith, c.frame_8khz.auto.out, (accepted_settings _ c.args.s.analysed).nb_high)
@@ -65,7 +66,7 @@ slice_bounds-buf_8khz-end c = omega (arith, c.frame_8khz.auto.out, (accepted_set
 pub slice_bounds-frame_4khz-end : goal.slice_bounds-frame_4khz-end
 slice_bounds-frame_4khz-end c =
     let a = c.args in
-    sym (ap length (eight_front a.s.settings a.w.now c.args.s.analysed c.requires c.source_filter.ensures.0 c.frame_8khz.ensures) ∙ eight_length a.s.settings a.w.now c.args.s.analysed c.requires)
+    sym (ap length (eight_front a.s.settings a.w.now c.args.s.analysed c.requires c.source_filter.ensures c.frame_8khz.ensures) ∙ eight_length a.s.settings a.w.now c.args.s.analysed c.requires)
 
 pub slice_bounds-buf_8khz-end-2 : goal.slice_bounds-buf_8khz-end-2
 slice_bounds-buf_8khz-end-2 c = omega (arith, c.frame_8khz.auto.out, (accepted_settings _ c.args.s.analysed).nb_high)
@@ -73,7 +74,7 @@ slice_bounds-buf_8khz-end-2 c = omega (arith, c.frame_8khz.auto.out, (accepted_s
 pub slice_bounds-stages-end : goal.slice_bounds-stages-end
 slice_bounds-stages-end c =
     let a = c.args in
-    sym (ap length (eight_front a.s.settings a.w.now c.args.s.analysed c.requires c.source_filter.ensures.0 c.frame_8khz.ensures) ∙ eight_length a.s.settings a.w.now c.args.s.analysed c.requires)
+    sym (ap length (eight_front a.s.settings a.w.now c.args.s.analysed c.requires c.source_filter.ensures c.frame_8khz.ensures) ∙ eight_length a.s.settings a.w.now c.args.s.analysed c.requires)
 
 pub slice_bounds-buf_4khz-end : goal.slice_bounds-buf_4khz-end
 slice_bounds-buf_4khz-end c = omega (arith, c.frame_4khz.auto.out, (accepted_settings _ c.args.s.analysed).nb_high)
@@ -81,20 +82,25 @@ slice_bounds-buf_4khz-end c = omega (arith, c.frame_4khz.auto.out, (accepted_set
 pub slice_bounds-stages-end-2 : goal.slice_bounds-stages-end-2
 slice_bounds-stages-end-2 c =
     let a = c.args in
-    sym (ap length (four_front a.s.settings a.w.now c.args.s.analysed c.requires (eight_front a.s.settings a.w.now c.args.s.analysed c.requires c.source_filter.ensures.0 c.frame_8khz.ensures) c.frame_4khz.ensures) ∙ four_length a.s.settings a.w.now c.args.s.analysed c.requires)
+    sym (ap length (four_front a.s.settings a.w.now c.args.s.analysed c.requires (eight_front a.s.settings a.w.now c.args.s.analysed c.requires c.source_filter.ensures c.frame_8khz.ensures) c.frame_4khz.ensures) ∙ four_length a.s.settings a.w.now c.args.s.analysed c.requires)
 
 pub stages-requires : goal.stages-requires
 stages-requires c =
     let a = c.args in
-    let e = eight_front a.s.settings a.w.now c.args.s.analysed c.requires c.source_filter.ensures.0 c.frame_8khz.ensures in
+    let e = eight_front a.s.settings a.w.now c.args.s.analysed c.requires c.source_filter.ensures c.frame_8khz.ensures in
     let f = four_front a.s.settings a.w.now c.args.s.analysed c.requires e c.frame_4khz.ensures in
     record { frame = c.requires; eight = ap length e ∙ eight_length a.s.settings a.w.now c.args.s.analysed c.requires; four = ap length f ∙ four_length a.s.settings a.w.now c.args.s.analysed c.requires }
+
+-- the verdict of the stages' answer
+said : (r : Result Verdict NoPitch) (v : Verdict) → MatchResult r (λ x. v ≡ x) (λ e. v ≡ verdict_without e) → v ≡ verdict_from r
+said (Ok x) v h = h
+said (Err e) v h = h
 
 pub returns : goal.returns
 unfolding staged
 returns c =
     let a = c.args in
-    let e = eight_front a.s.settings a.w.now c.args.s.analysed c.requires c.source_filter.ensures.0 c.frame_8khz.ensures in
+    let e = eight_front a.s.settings a.w.now c.args.s.analysed c.requires c.source_filter.ensures c.frame_8khz.ensures in
     let f = four_front a.s.settings a.w.now c.args.s.analysed c.requires e c.frame_4khz.ensures in
     let run : List ℤ → List ℤ → ℤ → ℤ → Verdict = λ x y pl pc. from_screen a.s.settings a.w.now x y pl pc (stage1 y a.s.settings.nb a.s.settings.complexity a.s.settings.thres1).screen in
-    c.stages.ensures ∙ (λ i. run (e i) (f i) ((r_var c.ranges.prev_lag).val i) ((r_var c.ranges.prev_corr).val i))
+    said c.stages.result c.unwrap_or_else.result c.unwrap_or_else.ensures ∙ c.stages.ensures ∙ (λ i. run (e i) (f i) a.prev.lag a.prev.correlation)

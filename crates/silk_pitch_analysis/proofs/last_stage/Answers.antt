@@ -1,11 +1,15 @@
 -- `silk_pitch_analysis::last_stage` meets its contract.
-use mathlib.Core.Path.{◌≡◌, sym, ap, ◌∙◌}
+use mathlib.Core.Path.{◌≡◌, refl, sym, ap, ◌∙◌}
 use mathlib.Core.List.{List}
 use Prim.Native.Nat.{ℕ, ◌*◌, ◌/◌}
 use native.Mathlib.Nat.{mul-le-mul}
 use native.Mathlib.Omega.{arith}
 use borrow.Author.Tests.{eq-eqb, ne_eqb}
 use lib.IntN.{ℤ}
+use Rattle.std.specs.Prelude.{Option, Some, None, Ok, Err, ok_or}
+use Rattle.std.proofs.lemmas.Result.{err_from_is_err_and}
+use Rattle.answers.specs.declared.NoPitch.{NoPitch}
+use Rattle.answers.specs.declared.NoPitch.TheVariants.{ZeroDivisor as ByZero}
 use Rattle.zint.specs.ReadLaws.{r_var}
 use Rattle.pitch_settings.specs.declared.Settings.{Settings}
 use Rattle.pitch_settings.specs.SettingsLaws.{accepted_settings}
@@ -13,8 +17,8 @@ use Rattle.silk_tables.specs.Stage2Laws.{contours2_bounds}
 use Rattle.silk_tables.proofs.TableLaws.{in_use_bounds}
 use Rattle.silk_tables.specs.ContourLaws.{greatest_lag_le}
 use Rattle.stage3.specs.Stage3.{stage3}
-use Rattle.stage3.specs.declared.Found.{Found}
-use Rattle.stage3.specs.declared.Found.TheVariants.{Pair}
+use Rattle.stage3.specs.declared.LagContour.{LagContour}
+use Rattle.stage3.specs.Pick.{Found, Pair, ZeroDivisor, answer_of}
 use Rattle.silk_pitch_analysis.specs.Frame.{scaled_lag, from_pair, last_stage}
 use Rattle.silk_pitch_analysis.specs.FrameLaws.{handed, stage3_range}
 use Rattle.silk_pitch_analysis.proofs.last_stage.Goals as goal
@@ -37,31 +41,44 @@ returns-then-fs_khz-eq8 c =
     rw (eq-eqb _ 8 c.if-fs_khz-eq8.true)
     (c.voiced.ensures ∙ ap (λ (k : ℤ). from_pair c.args.s.settings.rate k (Pair c.args.lag c.args.contour)) (r_var c.ranges.correlation).val)
 
-pub overflow_mul-lag : goal.overflow_mul-lag
-overflow_mul-lag c =
+pub overflow_mul-scaled : goal.overflow_mul-scaled
+overflow_mul-scaled c =
     let a = accepted_settings _ c.args.s.analysed in
     omega (arith, mul-le-mul c.requires.winner.high a.rate_high)
 
-pub search_stage3-found-requires : goal.search_stage3-found-requires
-search_stage3-found-requires c = handed c.args.s.settings c.args.w.now c.args.s.analysed c.requires.frame c.args.lag c.args.contour c.requires.winner c.if-fs_khz-eq8.false
+pub search_stage3-requires : goal.search_stage3-requires
+search_stage3-requires c = handed c.args.s.settings c.args.w.now c.args.s.analysed c.requires.frame c.args.lag c.args.contour c.requires.winner c.if-fs_khz-eq8.false
 
-pub returns-in_default : goal.returns-in_default
-returns-in_default c =
+-- what comes of stage 3's answer
+no_pair : (o : Option LagContour) {x : NoPitch} → ok_or o ByZero ≡ Err x → (answer_of o ≡ ZeroDivisor) × (x ≡ ByZero)
+no_pair None e = (refl, cc)
+no_pair (Some p) e = cc
+
+a_pair : (o : Option LagContour) {p : LagContour} → ok_or o ByZero ≡ Ok p → answer_of o ≡ Pair p.lag p.contour
+a_pair None e = cc
+a_pair (Some q) {p = p} e = let z : q ≡ p = cc in ap (λ (y : LagContour). Pair y.lag y.contour) z
+
+pub returns-in_err-found : goal.returns-in_err-found
+returns-in_err-found c =
     let a = c.args in
-    sym (last a.s.settings a.w.now a.lag a.contour a.correlation c.if-fs_khz-eq8.false (sym c.search_stage3-found.ensures.value ∙ c.in_default.is))
+    let z = no_pair c.search_stage3.result (sym c.ok_or.ensures.value ∙ c.in_err-found.was) in
+    let p = err_from_is_err_and c.from_residual.result c.from_residual.ensures.1 in
+    rw (p.1, p.2, z.1) (sym (last a.s.settings a.w.now a.lag a.contour a.correlation c.if-fs_khz-eq8.false (sym c.search_stage3.ensures.value ∙ z.0)))
 
 pub voiced-requires-2 : goal.voiced-requires-2
 voiced-requires-2 c =
     let a = c.args in
     let g = c.if-fs_khz-eq8.false in
     let h = handed a.s.settings a.w.now c.args.s.analysed c.requires.frame a.lag a.contour c.requires.winner g in
-    let p = stage3_range a.s.settings a.w.now c.args.s.analysed c.requires.frame a.lag a.contour c.requires.winner g _ _ (sym c.search_stage3-found.ensures.value ∙ c.in-Pair.is) in
+    let e = sym c.search_stage3.ensures.value ∙ a_pair c.search_stage3.result (sym c.ok_or.ensures.value ∙ c.in_ok-found.was) in
+    let p = stage3_range a.s.settings a.w.now c.args.s.analysed c.requires.frame a.lag a.contour c.requires.winner g _ _ e in
     let u = in_use_bounds h.settings in
     (h.rate_high, (omega (arith, p.1.0, greatest_lag_le a.s.settings.rate h.rate_low), omega (arith, p.1.1)))
 
 pub returns : goal.returns
 returns c =
     let a = c.args in
+    let e = sym c.search_stage3.ensures.value ∙ a_pair c.search_stage3.result (sym c.ok_or.ensures.value ∙ c.in_ok-found.was) in
     c.voiced-2.ensures
-    ∙ ap (λ (k : ℤ). from_pair a.s.settings.rate k (Pair c.in-Pair.d c.in-Pair.j)) (r_var c.ranges.correlation).val
-    ∙ sym (last a.s.settings a.w.now a.lag a.contour a.correlation c.if-fs_khz-eq8.false (sym c.search_stage3-found.ensures.value ∙ c.in-Pair.is))
+    ∙ ap (λ (k : ℤ). from_pair a.s.settings.rate k (Pair c.in_ok-found.found.lag c.in_ok-found.found.contour)) (r_var c.ranges.correlation).val
+    ∙ sym (last a.s.settings a.w.now a.lag a.contour a.correlation c.if-fs_khz-eq8.false e)

@@ -1,56 +1,52 @@
 -- `silk_pitch_analysis::second_stage` meets its contract.
-use mathlib.Core.Path.{◌≡◌, sym, ap, ◌∙◌}
+use mathlib.Core.Path.{◌≡◌, refl, sym, ap, ◌∙◌}
 use mathlib.Core.List.{List}
-use Prim.Native.Nat.{ℕ}
 use native.Mathlib.Omega.{arith}
 use lib.IntN.{ℤ}
+use Rattle.std.specs.Prelude.{Err}
+use Rattle.std.proofs.lemmas.Result.{err_from_is_err_and}
+use Rattle.answers.specs.declared.NoPitch.{NoPitch}
+use Rattle.answers.specs.declared.NoPitch.TheVariants.{Unvoiced as HasNone, ZeroDivisor as ByZero}
 use mir.Syntax.{w32}
-use mir.Val.{SFits, to_z, of_z}
-use Rattle.zint.specs.ReadLaws.{r_var}
+use mir.Val.{to_z, of_z}
 use Rattle.zint.specs.RuleLaws.{zneeds}
 use Rattle.pitch_settings.specs.declared.Settings.{Settings}
 use Rattle.pitch_settings.specs.SettingsLaws.{accepted_settings}
-use Rattle.stage2.specs.Stage2.{stage2}
+use Rattle.stage2.specs.Stage2.{answer_of}
 use Rattle.stage2.specs.MeaningLaws.{winner_range}
-use Rattle.stage2.specs.declared.Stage2.{Stage2}
 use Rattle.silk_pitch_analysis.specs.Frame.{from_winner, last_stage}
+use Rattle.silk_pitch_analysis.specs.Steps.{verdict_without}
 use Rattle.silk_pitch_analysis.proofs.second_stage.Goals as goal
 
--- stage 2's answer, of the numbers as the code hands them on
-answer : (s : Settings) (e : List ℤ) (kept : List ℕ) (prev corr : ℤ) {r : Stage2} → SFits w32 s.thres2 → SFits w32 prev → SFits w32 corr
-    → r ≡ stage2 e kept s.rate s.nb s.complexity (to_z w32 (of_z w32 s.thres2)) (to_z w32 (of_z w32 prev)) (to_z w32 (of_z w32 corr))
-    → r ≡ stage2 e kept s.rate s.nb s.complexity s.thres2 prev corr
-answer s e kept prev corr f g h q = q ∙ (λ i. stage2 e kept s.rate s.nb s.complexity ((r_var f).val i) ((r_var g).val i) ((r_var h).val i))
+-- the verdict where there is no winner
+without : (s : Settings) (w : List ℤ) (x : NoPitch) → verdict_without x ≡ from_winner s w (answer_of (Err x))
+without s w HasNone = refl
+without s w ByZero = refl
 
-pub search_stage2-answer-requires : goal.search_stage2-answer-requires
-search_stage2-answer-requires c =
+pub search_stage2-requires : goal.search_stage2-requires
+search_stage2-requires c =
     let p = c.requires in
     let a = accepted_settings _ c.args.s.analysed in
     record { rate = a.rate; subframes = a.subframes; complexity = omega (arith, a.complexity); long = omega (arith, p.eight); lags = p.kept }
 
+pub returns-in_err-winner : goal.returns-in_err-winner
+returns-in_err-winner c =
+    let a = c.args in
+    let q = c.search_stage2.ensures.value in
+    let p = err_from_is_err_and c.from_residual.result c.from_residual.ensures.1 in
+    rw (p.1, p.2) (without a.s.settings a.w.now _ ∙ ap (from_winner a.s.settings a.w.now) (ap answer_of (sym c.in_err-winner.was) ∙ q))
+
 pub last_stage-requires : goal.last_stage-requires
 last_stage-requires c =
     let a = c.args in
-    let q = answer a.s.settings a.e.now a.kept.now a.prev_lag a.prev_corr (search zneeds) c.ranges.prev_lag c.ranges.prev_corr c.search_stage2-answer.ensures.value in
-    let r = winner_range a.e.now a.kept.now a.s.settings.rate a.s.settings.nb a.s.settings.complexity a.s.settings.thres2 a.prev_lag a.prev_corr _ _ _ (sym q ∙ c.in-Winner.is) in
+    let q = c.search_stage2.ensures.value in
+    let r = winner_range a.e.now a.kept.now a.s.settings.rate a.s.settings.nb a.s.settings.complexity a.s.settings.thres2 a.prev.lag a.prev.correlation _ _ _ (sym q ∙ ap answer_of c.in_ok-winner.was) in
     record { frame = c.requires.frame; winner = record { low = r.0; high = r.1.0; tried = r.1.1 } }
 
-pub returns-in-Winner : goal.returns-in-Winner
-returns-in-Winner c =
+pub returns : goal.returns
+returns c =
     let a = c.args in
-    let v = c.in-Winner in
-    let q = answer a.s.settings a.e.now a.kept.now a.prev_lag a.prev_corr (search zneeds) c.ranges.prev_lag c.ranges.prev_corr c.search_stage2-answer.ensures.value in
+    let v = c.in_ok-winner.winner in
+    let q = c.search_stage2.ensures.value in
     let k : to_z w32 (of_z w32 v.correlation) ≡ v.correlation = search zneeds in
-    c.last_stage.ensures ∙ ap (last_stage a.s.settings a.w.now v.lag v.contour) k ∙ ap (from_winner a.s.settings a.w.now) (sym v.is ∙ q)
-
-pub returns-in-Unvoiced : goal.returns-in-Unvoiced
-returns-in-Unvoiced c =
-    let a = c.args in
-    let q = answer a.s.settings a.e.now a.kept.now a.prev_lag a.prev_corr (search zneeds) c.ranges.prev_lag c.ranges.prev_corr c.search_stage2-answer.ensures.value in
-    ap (from_winner a.s.settings a.w.now) (sym c.in-Unvoiced.is ∙ q)
-
-pub returns-in-ZeroDivisor : goal.returns-in-ZeroDivisor
-returns-in-ZeroDivisor c =
-    let a = c.args in
-    let q = answer a.s.settings a.e.now a.kept.now a.prev_lag a.prev_corr (search zneeds) c.ranges.prev_lag c.ranges.prev_corr c.search_stage2-answer.ensures.value in
-    ap (from_winner a.s.settings a.w.now) (sym c.in-ZeroDivisor.is ∙ q)
+    c.last_stage.ensures ∙ ap (last_stage a.s.settings a.w.now v.lag v.contour) k ∙ ap (from_winner a.s.settings a.w.now) (ap answer_of (sym c.in_ok-winner.was) ∙ q)

@@ -1,14 +1,16 @@
 -- `silk_resampler::silk_resampler_down2_3` meets its contract.
 use mathlib.Core.Path.{◌≡◌, ap, ◌∙◌}
-use mathlib.Core.List.{List}
+use mathlib.Core.List.{List, ◌++◌}
 use Prim.Native.Nat.{ℕ, ◌+◌, ◌-◌, ◌≤◌, ◌<◌}
 use native.Mathlib.Omega.{arith}
+use borrow.Author.Rules.{rules}
 use borrow.Rule.Slice.PartMut.{put_mid}
 use lib.IntN.{ℤ, pos, negsuc}
 use lib.ListN.{length, take, drop, replicate, length-replicate}
 use Rattle.lists.specs.Fill.{filled}
+use Rattle.lists.specs.FillLaws.{filled_copied}
 use Rattle.lists.specs.Signal.{sample}
-use Rattle.silk_resampler.specs.declared.Filter.{Filter}
+use Rattle.silk_resampler.specs.declared.filter.Filter.{Filter}
 use Rattle.silk_resampler.specs.Down23.{States, ar2_states, filtered, states_of, with_states, buffer, down2_3_states}
 use Rattle.silk_resampler.specs.Down23Laws.{batch_at, batch_out, batch_states, states_part}
 use Rattle.silk_resampler.proofs.silk_resampler_down2_3.Goals as goal
@@ -31,13 +33,22 @@ returns c =
     let m = c.args.in_len in
     let l = drop 4 s in
     let a = ar2_states F (negsuc 2796) (negsuc 6506) (states_of l) x m in
-    let h : m ≤ 480 = omega (arith, c.requires.in_bounds) in
-    let g : 4 ≤ length s = omega (arith, c.requires.in_bounds) in
-    let buf = put_mid 4 (4 + m - 4) c.copy_values.new.to c.silk_resampler_private_ar2.new.out_q8 in
-    let b = buffer_at F s x m h c.copy_values.ensures c.silk_resampler_private_ar2.ensures.out_q8_after in
+    let h : m ≤ 480 = omega (arith, c.requires) in
+    let g : 4 ≤ length s = omega (arith, c.requires) in
+    let history : c.copy_from_slice.new.self ++ drop 4 (replicate 484 (pos 0)) ≡ filled (sample s) 4 (replicate 484 (pos 0)) =
+    ap (λ (t : List ℤ). t ++ drop 4 (replicate 484 (pos 0))) c.copy_from_slice.ensures.after ∙ filled_copied s (replicate 484 (pos 0)) 4 (pos 0) g in
+    let buf = put_mid 4 (4 + m - 4) (c.copy_from_slice.new.self ++ drop 4 (replicate 484 (pos 0))) c.silk_resampler_private_ar2.new.out_q8 in
+    let b = buffer_at F s x m h history c.silk_resampler_private_ar2.ensures.out_q8_after in
     let f : c.silk_resampler_private_ar2.new.s ≡ with_states a (take 2 l) =
     c.silk_resampler_private_ar2.ensures.s_after ∙ ap (λ (z : States). with_states (ar2_states F (negsuc 2796) (negsuc 6506) z x m) (take 2 l)) (states_part l) in
+    let last : c.copy_from_slice-2.new.self ≡ take (m + 4 - m) (drop m buf) = c.copy_from_slice-2.ensures.after in
+    let four : m + 4 - m ≡ 4 = omega arith in
+    let states = put_mid 4 2 s c.silk_resampler_private_ar2.new.s in
+    let room : 4 ≤ length (drop m buf) = search rules in
     record {
       out_after = c.decimate.ensures ∙ batch_out F s x m buf b c.args.out.now;
-      s_after = c.copy_values-2.ensures ∙ batch_states F s x m buf b (484 - m) a f (omega arith) g;
+      s_after =
+          ap (λ (t : List ℤ). t ++ drop 4 states) (last ∙ ap (λ (n : ℕ). take n (drop m buf)) four)
+          ∙ filled_copied (drop m buf) states 4 (pos 0) room
+          ∙ batch_states F s x m buf b a f g;
     }

@@ -19,26 +19,14 @@ returns c =
 pub offset_bounds-x-start : goal.offset_bounds-x-start
 offset_bounds-x-start c = search zneeds
 
-pub slice_bounds-silk_inner_prod_aligned-count : goal.slice_bounds-silk_inner_prod_aligned-count
-slice_bounds-silk_inner_prod_aligned-count c = search zneeds
+pub slice_bounds-part-count : goal.slice_bounds-part-count
+slice_bounds-part-count c = search zneeds
 
-pub slice_bounds-silk_inner_prod_aligned-start : goal.slice_bounds-silk_inner_prod_aligned-start
-slice_bounds-silk_inner_prod_aligned-start c = search zneeds
+pub slice_bounds-part-start : goal.slice_bounds-part-start
+slice_bounds-part-start c = search zneeds
 
-pub slice_bounds-silk_inner_prod_aligned-end : goal.slice_bounds-silk_inner_prod_aligned-end
-slice_bounds-silk_inner_prod_aligned-end c = search zneeds
-
-pub offset_bounds-x-start-2 : goal.offset_bounds-x-start-2
-offset_bounds-x-start-2 c = search zneeds
-
-pub slice_bounds-silk_inner_prod_aligned-count-2 : goal.slice_bounds-silk_inner_prod_aligned-count-2
-slice_bounds-silk_inner_prod_aligned-count-2 c = search zneeds
-
-pub slice_bounds-silk_inner_prod_aligned-start-2 : goal.slice_bounds-silk_inner_prod_aligned-start-2
-slice_bounds-silk_inner_prod_aligned-start-2 c = search zneeds
-
-pub slice_bounds-silk_inner_prod_aligned-end-2 : goal.slice_bounds-silk_inner_prod_aligned-end-2
-slice_bounds-silk_inner_prod_aligned-end-2 c = search zneeds
+pub slice_bounds-part-end : goal.slice_bounds-part-end
+slice_bounds-part-end c = search zneeds
 
 pub silk_inner_prod_aligned-requires : goal.silk_inner_prod_aligned-requires
 silk_inner_prod_aligned-requires c = search zneeds

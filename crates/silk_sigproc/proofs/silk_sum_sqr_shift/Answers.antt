@@ -45,8 +45,8 @@ module _ (x : List ℤ) (n : ℕ) (positive : 0 < n) (few : n < 2 ^ 28) (within 
 pub overflow_sub-first_shift : goal.overflow_sub-first_shift
 overflow_sub-first_shift c = zeros_le c.args.len c.requires.0 (omega arith)
 
-pub slice_bounds-sum_pairs-end : goal.slice_bounds-sum_pairs-end
-slice_bounds-sum_pairs-end c =
+pub slice_bounds-part-end : goal.slice_bounds-part-end
+slice_bounds-part-end c =
     let q = c.requires in
     sym (part_length c.args.x.now c.args.len q.0 q.1.0 q.1.1)
 
@@ -64,11 +64,6 @@ pub overflow_cast-nrg : goal.overflow_cast-nrg
 overflow_cast-nrg c =
     let q = c.requires in
     omega (arith, nrg_small c.args.x.now c.args.len q.0 q.1.0 q.1.1 _ c.sum_pairs.ensures)
-
-pub slice_bounds-sum_pairs-end-2 : goal.slice_bounds-sum_pairs-end-2
-slice_bounds-sum_pairs-end-2 c =
-    let q = c.requires in
-    sym (part_length c.args.x.now c.args.len q.0 q.1.0 q.1.1)
 
 pub sum_pairs-energy-requires : goal.sum_pairs-energy-requires
 sum_pairs-energy-requires c =

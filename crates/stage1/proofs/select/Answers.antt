@@ -1,7 +1,7 @@
 -- `stage1::select` meets its contract: the best score is the first of the sorted ones.
 use mathlib.Core.List.{List}
 use mathlib.Core.Path.{◌≡◌, ap, ◌∙◌}
-use Prim.Native.Nat.{ℕ}
+use Prim.Native.Nat.{ℕ, ◌≤◌}
 use native.Mathlib.Omega.{arith}
 use lib.IntN.{ℤ, pos}
 use lib.ListN.{get_or}
@@ -21,7 +21,7 @@ unfolding sample
 first l f = wide_32 f
 
 pub returns-then-best-lt3277 : goal.returns-then-best-lt3277
-returns-then-best-lt3277 c = c.stop.ensures ∙ selected_low _ _ _ _ (t_below (pos 3277) (first c.args.c_combined.now (search zneeds)) c.if-best-lt3277.true)
+returns-then-best-lt3277 c = selected_low _ _ _ _ (t_below (pos 3277) (first c.args.c_combined.now (search zneeds)) c.if-best-lt3277.true)
 
 -- how many go on, of the threshold t that was computed of the best score
 counted : (l : List ℤ) (n k : ℕ) (thres1 t : ℤ) → SFits w32 thres1 → SFits w32 t → SFits w16 (get_or l 0 (pos 0))
@@ -35,6 +35,12 @@ lags_of-lags-requires c =
     let few = count_above_le l c.args.n (smulwb c.args.search_thres1_q16 (sample l 0)) in
     let e = counted l c.args.n c.run_above-count.result _ _ c.ranges.search_thres1_q16 (record { sfits = c.silk_smulwb-threshold.type_inv }) (search zneeds) c.silk_smulwb-threshold.ensures c.run_above-count.ensures in
     (omega arith, (omega arith, λ i h. c.requires.1.1.1.1 i (omega arith)))
+
+few : (l : List ℤ) (n : ℕ) (threshold : ℤ) (k : ℕ) → k ≡ count_above l n threshold → n ≤ 8 → k ≤ 8
+few l n threshold k e h = omega (arith, count_above_le l n threshold)
+
+pub invariant_of-result : goal.invariant_of-result
+invariant_of-result c = record { within = few _ _ _ _ c.run_above-count.ensures c.requires.1.0 }
 
 pub returns : goal.returns
 returns c =

@@ -1,26 +1,25 @@
 -- `stage2::consider` meets its contract.
-use mathlib.Core.Path.{◌≡◌, ap₂, ◌∙◌}
+use mathlib.Core.Path.{ap₂, ◌∙◌}
 use mathlib.Core.Bool.{true, false}
+use Rattle.std.specs.Prelude.{Some}
 use lib.IntN.{ℤ}
 use mir.Syntax.{w32}
-use mir.Val.{to_z, of_z}
-use Rattle.zint.specs.ReadLaws.{r_var, t_lt, via_lt}
+use Rattle.zint.specs.ReadLaws.{r_var, r_got, t_lt, via_lt}
 use Rattle.stage2.specs.SearchLaws.{takes, keeps, fails}
-use Rattle.zint.specs.RuleLaws.{zneeds}
 use Rattle.stage2.proofs.consider.Goals as goal
 
 pub returns-then-score-top : goal.returns-then-score-top
 returns-then-score-top c =
     let a = c.args in
     let f = c.ranges in
-    let top : to_z w32 (of_z w32 a.best.top) ≡ a.best.top = search zneeds in
-    ap₂ (λ (x y : ℤ). record { top = x; cc = y; lag = a.d; contour = a.contour }) (r_var f.score).val (r_var f.cc).val
+    let top = (r_got w32 c.top_of-top.type_inv c.top_of-top.ensures).val in
+    ap₂ (λ (x y : ℤ). Some (record { top = x; cc = y; lag = a.d; contour = a.contour })) (r_var f.score).val (r_var f.cc).val
     ∙ takes a.best _ _ _ _ _ (t_lt (r_var f.thres) (r_var f.cc) c.if-cc-thres.true) (via_lt _ _ _ _ true c.if-score-top.true top (r_var f.score).val)
 
 pub returns-else-score-top : goal.returns-else-score-top
 returns-else-score-top c =
     let f = c.ranges in
-    let top : to_z w32 (of_z w32 c.args.best.top) ≡ c.args.best.top = search zneeds in
+    let top = (r_got w32 c.top_of-top.type_inv c.top_of-top.ensures).val in
     keeps c.args.best _ _ _ _ _ (t_lt (r_var f.thres) (r_var f.cc) c.if-cc-thres.true) (via_lt _ _ _ _ false c.if-score-top.false top (r_var f.score).val)
 
 pub returns-else-cc-thres : goal.returns-else-cc-thres

@@ -1,5 +1,5 @@
 -- `stage2::pick_lag` meets its contract.
-use mathlib.Core.Path.{◌≡◌, refl, sym, ap, ◌∙◌, subst, subst₂}
+use mathlib.Core.Path.{◌≡◌, sym, ap, ◌∙◌, subst, subst₂}
 use Prim.Native.Nat.{ℕ, ◌+◌, ◌-◌}
 use native.Mathlib.Omega.{arith}
 use Rattle.stage2.specs.Search.{search_in, best_with}
@@ -7,7 +7,7 @@ use Rattle.stage2.specs.SearchLaws.{AfterLags, after_none, after_next, after_all
 use Rattle.stage2.proofs.pick_lag.Goals as goal
 
 pub loop-d-init : goal.loop-d-init
-loop-d-init c = (omega arith, (omega arith, after_none _ _ refl refl refl))
+loop-d-init c = (omega arith, (omega arith, after_none _))
 
 pub try_lag-best-requires : goal.try_lag-best-requires
 try_lag-best-requires c =

@@ -7,53 +7,65 @@ use native.Mathlib.Omega.{arith}
 use borrow.Author.Count.{below_more}
 use lib.IntN.{ℤ, pos}
 use lib.ListN.{replicate}
-use mir.Syntax.{w32}
-use mir.Val.{SFits, to_z, of_z}
-use Rattle.zint.specs.ReadLaws.{r_var}
 use Rattle.lists.specs.Fill.{tabulate}
 use Rattle.lists.specs.FillLaws.{filled_none, filled_turn}
-use Rattle.best.specs.Best.{some}
 use Rattle.stage2_correlations.specs.Marks.{measured}
-use Rattle.stage2_correlations.specs.Correlations.{target2, correlation2, zero_reached2}
-use Rattle.stage2_correlations.specs.declared.SubframeRow.{SubframeRow}
+use Rattle.stage2_correlations.specs.Correlations.{target2, correlation2}
 use Rattle.stage2_correlations.specs.Rows.{subframe_row}
 use Rattle.stage2_correlations.specs.RowLaws.{subframe_row_kept, zero_in2, zero_row}
-use Rattle.stage2.specs.declared.Stage2.TheVariants.{ZeroDivisor}
+use Rattle.std.specs.Prelude.{Option, Some, None, Ok, Err, ok_or, cond, true, refl}
+use Rattle.std.proofs.lemmas.Result.{err_from_is_err_and}
+use Rattle.answers.specs.declared.NoPitch.{NoPitch}
+use Rattle.answers.specs.declared.NoPitch.TheVariants.{ZeroDivisor as ByZero}
+use Rattle.stage2.specs.Stage2.{answer_of}
 use Rattle.stage2.specs.NumberLaws.{and_numbers}
 use Rattle.silk_tables.proofs.TableLaws.{two_to_four}
 use Rattle.silk_tables.specs.Stage2Laws.{contours2_bounds, contours2_le}
-use Rattle.stage2.specs.Search.{at2, SixteenBits, HandedSearch, ContoursTried, lag_search, search_in, BestOfAll}
+use Rattle.stage2.specs.Search.{at2, SixteenBits, HandedSearch, ContoursTried, search_in, BestOfAll}
 use Rattle.stage2.specs.declared.LagSearch.{LagSearch}
 use Rattle.stage2.specs.SearchLaws.{rows, rows_small, stage2_picked, stage2_zero}
 use Rattle.stage2.proofs.search_stage2.Goals as goal
 
 pub loop-k-init : goal.loop-k-init
 unfolding rows
-loop-k-init c = (omega arith, (c.measured_lags-marks.ensures, (λ q l. absurd (omega arith), filled_none _ _)))
+loop-k-init c = (omega arith, (refl, (c.measured_lags-marks.ensures, (λ q l. absurd (omega arith), filled_none _ _))))
 
-pub subframe_row-row-requires : goal.subframe_row-row-requires
+pub subframe_row-requires : goal.subframe_row-requires
 unfolding target2
-subframe_row-row-requires c =
+subframe_row-requires c =
     let h = c.requires in
     (omega (arith, two_to_four h.subframes), omega (arith, h.long))
 
 -- the row of subframe k is that of the definition
-module _ (e : List ℤ) (kept : List ℕ) (k : ℕ) {r : SubframeRow} {m : List Bool} where
-  row_is : r ≡ subframe_row e m k → m ≡ tabulate (λ i. measured kept (14 + i)) 132
-      → r ≡ record { zero = some 132 (λ i. zero_reached2 e kept k (14 + i)); c = tabulate (λ i. correlation2 e kept k (14 + i)) 132 }
-  row_is f g = f ∙ ap (λ (x : List Bool). subframe_row e x k) g ∙ subframe_row_kept e kept k
+module _ (e : List ℤ) (kept : List ℕ) (k : ℕ) (o : Option (List ℤ)) {m : List Bool} (f : o ≡ subframe_row e m k) (g : m ≡ tabulate (λ i. measured kept (14 + i)) 132) where
+  row_is : o ≡ cond (zero_in2 e kept k) None (Some (tabulate (λ i. correlation2 e kept k (14 + i)) 132))
+  row_is =
+      f ∙ ap (λ (x : List Bool). subframe_row e x k) g ∙ subframe_row_kept e kept k
+      ∙ ap (λ (t : Bool). cond t None (Some (tabulate (λ i. correlation2 e kept k (14 + i)) 132))) (zero_row e kept k)
 
-  zero_is : r ≡ subframe_row e m k → m ≡ tabulate (λ i. measured kept (14 + i)) 132 → zero_in2 e kept k ≡ r.zero
-  zero_is f g = sym (ap (λ (x : SubframeRow). x.zero) (row_is f g) ∙ zero_row e kept k)
+-- and the error of one with a zero divisor
+no_row : (t : Bool) (l : List ℤ) {x : NoPitch} (o : Option (List ℤ)) → o ≡ cond t None (Some l) → ok_or o ByZero ≡ Err x → (t ≡ true) × (x ≡ ByZero)
+no_row true l None h k = (refl, cc)
+no_row true l (Some m) h k = cc
+no_row false l None h k = cc
+no_row false l (Some m) h k = cc
 
-pub returns-then-row : goal.returns-then-row
-returns-then-row c =
+some_row : (t : Bool) (l : List ℤ) {m : List ℤ} (o : Option (List ℤ)) → o ≡ cond t None (Some l) → ok_or o ByZero ≡ Ok m → (t ≡ false) × (m ≡ l)
+some_row true l None h k = cc
+some_row true l (Some n) h k = cc
+some_row false l None h k = cc
+some_row false l (Some n) h k = (refl, cc)
+
+pub returns-in_err-row : goal.returns-in_err-row
+returns-in_err-row c =
     let a = c.args in
     let k = c.loop-k.k in
-    let z = zero_is a.frame_8khz.now a.kept.now k c.subframe_row-row.ensures c.loop-k.invariant.1.0 ∙ c.if-row.true in
-    let p = and_numbers _ _ _ _ _ _ _ _ ZeroDivisor
-    (stage2_zero a.frame_8khz.now a.kept.now a.fs_khz a.nb_subfr a.complexity a.search_thres2_q13 a.prev_lag a.prev_corr k (omega arith) z) in
-    record { value = p.0; result_value = p.1 }
+    let e = a.frame_8khz.now in
+    let z = no_row (zero_in2 e a.kept.now k) _ c.subframe_row.result (row_is e a.kept.now k c.subframe_row.result c.subframe_row.ensures c.loop-k.invariant.1.1.0) (sym c.ok_or.ensures.value ∙ c.in_err-row.was) in
+    let p = err_from_is_err_and c.from_residual.result c.from_residual.ensures.1 in
+    let q = and_numbers e a.kept.now a.s.rate a.s.nb a.s.complexity a.s.thres2 a.prev.lag a.prev.correlation (answer_of c.from_residual.result)
+    (rw (p.1, p.2, z.1) (stage2_zero e a.kept.now a.s.rate a.s.nb a.s.complexity a.s.thres2 a.prev.lag a.prev.correlation k (omega arith) z.0)) in
+    record { value = q.0; numbers = q.1 }
 
 pub offset_bounds-c_8khz-k : goal.offset_bounds-c_8khz-k
 offset_bounds-c_8khz-k c = omega (arith, two_to_four c.requires.subframes)
@@ -67,23 +79,21 @@ loop-k-preserved c =
     let a = c.args in
     let e = a.frame_8khz.now in
     let k = c.loop-k.k in
-    let inv = c.loop-k.invariant.1 in
-    let f = c.subframe_row-row.ensures in
+    let inv = c.loop-k.invariant.1.1 in
+    let z = some_row (zero_in2 e a.kept.now k) _ c.subframe_row.result (row_is e a.kept.now k c.subframe_row.result c.subframe_row.ensures inv.0) (sym c.ok_or.ensures.value ∙ c.in_ok-row.was) in
     let row : ℕ → List ℤ = λ q. tabulate (λ i. correlation2 e a.kept.now q (14 + i)) 132 in (
       omega arith,
       (
-        inv.0,
+        c.loop-k.invariant.1.0,
         (
-          below_more (λ (q : ℕ). zero_in2 e a.kept.now q ≡ false) k inv.1.0 (zero_is e a.kept.now k f inv.0 ∙ c.if-row.false),
-          filled_turn row k (replicate 4 (replicate 132 (pos 0))) inv.1.1 (ap (λ (r : SubframeRow). r.c) (row_is e a.kept.now k f inv.0)) (omega arith),
+          inv.0,
+          (
+            below_more (λ (q : ℕ). zero_in2 e a.kept.now q ≡ false) k inv.1.0 z.0,
+            filled_turn row k (replicate 4 (replicate 132 (pos 0))) inv.1.1 z.1 (omega arith),
+          ),
         ),
       ),
     )
-
--- what the search goes by, from the bits handed on
-by_is : (fs nb cx : ℕ) {thres prev corr : ℤ} {y : LagSearch} → SFits w32 thres → SFits w32 prev → SFits w32 corr
-    → y ≡ lag_search fs nb cx (to_z w32 (of_z w32 thres)) (to_z w32 (of_z w32 prev)) (to_z w32 (of_z w32 corr)) → y ≡ lag_search fs nb cx thres prev corr
-by_is fs nb cx f g h e = e ∙ (λ t. lag_search fs nb cx ((r_var f).val t) ((r_var g).val t) ((r_var h).val t))
 
 pub lag_search-by-requires : goal.lag_search-by-requires
 lag_search-by-requires c = (two_to_four c.requires.subframes).1
@@ -92,15 +102,14 @@ pub pick_lag-requires : goal.pick_lag-requires
 pick_lag-requires c =
     let a = c.args in
     let h = two_to_four c.requires.subframes in
-    let b = contours2_bounds a.fs_khz a.nb_subfr a.complexity in
-    let l = contours2_le a.fs_khz a.nb_subfr a.complexity in
-    let f = c.ranges in
-    let k : c.loop-k.k ≡ a.nb_subfr = omega arith in
-    let array = c.loop-k.invariant.1.1.1 ∙ ap (rows a.frame_8khz.now a.kept.now) k in
-    let by = by_is a.fs_khz a.nb_subfr a.complexity f.search_thres2_q13 f.prev_lag f.prev_corr c.lag_search-by.ensures in
+    let b = contours2_bounds a.s.rate a.s.nb a.s.complexity in
+    let l = contours2_le a.s.rate a.s.nb a.s.complexity in
+    let k : c.loop-k.k ≡ a.s.nb = omega arith in
+    let array = c.loop-k.invariant.1.1.1.1 ∙ ap (rows a.frame_8khz.now a.kept.now) k in
+    let by = c.lag_search-by.ensures in
     subst (λ (y : LagSearch). HandedSearch c.loop-k.c_8khz a.kept.now y.nb × ContoursTried y) (sym by) (
       record {
-        small = subst (λ (x : List (List ℤ)). SixteenBits (at2 x) a.nb_subfr) (sym array) (rows_small a.frame_8khz.now a.kept.now a.nb_subfr);
+        small = subst (λ (x : List (List ℤ)). SixteenBits (at2 x) a.s.nb) (sym array) (rows_small a.frame_8khz.now a.kept.now a.s.nb);
         lags = c.requires.lags;
         subframes = c.requires.subframes;
         at_least = h.0;
@@ -115,13 +124,12 @@ answer-requires c = (c.pick_lag.ensures.small, two_to_four c.requires.subframes)
 pub returns : goal.returns
 returns c =
     let a = c.args in
-    let f = c.ranges in
-    let k : c.loop-k.k ≡ a.nb_subfr = omega arith in
-    let array = c.loop-k.invariant.1.1.1 ∙ ap (rows a.frame_8khz.now a.kept.now) k in
-    let by = by_is a.fs_khz a.nb_subfr a.complexity f.search_thres2_q13 f.prev_lag f.prev_corr c.lag_search-by.ensures in
+    let k : c.loop-k.k ≡ a.s.nb = omega arith in
+    let array = c.loop-k.invariant.1.1.1.1 ∙ ap (rows a.frame_8khz.now a.kept.now) k in
+    let by = c.lag_search-by.ensures in
     let u = transport (λ t. BestOfAll (search_in (array t) a.kept.now (by t)) c.pick_lag.result) c.pick_lag.ensures in
-    let p = and_numbers _ _ _ _ _ _ _ _ c.answer.result
+    let p = and_numbers _ _ _ _ _ _ _ _ (answer_of c.answer.result)
     (c.answer.ensures
     ∙ u.answer
-    ∙ stage2_picked a.frame_8khz.now a.kept.now a.fs_khz a.nb_subfr a.complexity a.search_thres2_q13 a.prev_lag a.prev_corr (λ q h. c.loop-k.invariant.1.1.0 q (omega arith))) in
-    record { value = p.0; result_value = p.1 }
+    ∙ stage2_picked a.frame_8khz.now a.kept.now a.s.rate a.s.nb a.s.complexity a.s.thres2 a.prev.lag a.prev.correlation (λ q h. c.loop-k.invariant.1.1.1.0 q (omega arith))) in
+    record { value = p.0; numbers = p.1 }

@@ -1,12 +1,12 @@
 -- The invariants of `subframe_row`.
 use mathlib.Core.Path.{◌≡◌}
-use Prim.Native.Nat.{◌+◌, ◌-◌, ◌≤◌}
+use mathlib.Core.Bool.{false}
+use Prim.Native.Nat.{ℕ, ◌+◌, ◌-◌, ◌≤◌, ◌<◌}
 use lib.IntN.{pos, ◌+ℤ◌}
 use lib.ListN.{replicate}
 use mir.Syntax.{w32}
 use Rattle.zint.specs.Wrap.{wrap}
 use Rattle.lists.specs.Fill.{filled}
-use Rattle.best.specs.Best.{some}
 use Rattle.silk_sigproc.specs.Dot.{energy_sum}
 use Rattle.stage2_correlations.specs.Correlations.{target2 as start_of_lem}
 use Rattle.stage2_correlations.specs.Rows.{value_at, zero_at}
@@ -14,4 +14,4 @@ use Rattle.stage2_correlations.proofs.subframe_row.Given as goal
 
 abbrev pub invariant-loop-i : goal.invariant-loop-i
 invariant-loop-i l =
-    (l.i ≤ 132) × ((l.target ≡ start_of_lem l.k) × ((l.energy_target ≡ wrap w32 (wrap w32 (energy_sum l.frame_8khz (start_of_lem l.k) 40) +ℤ pos 1)) × ((l.energy_basis ≡ wrap w32 (energy_sum l.frame_8khz (start_of_lem l.k - (14 + l.i)) 40)) × ((l.c_8khz ≡ filled (value_at l.frame_8khz l.marks l.k) l.i (replicate 132 (pos 0))) × (l.zero ≡ some l.i (zero_at l.frame_8khz l.marks l.k))))))
+    (l.i ≤ 132) × ((l.target ≡ start_of_lem l.k) × ((l.energy_target ≡ wrap w32 (wrap w32 (energy_sum l.frame_8khz (start_of_lem l.k) 40) +ℤ pos 1)) × ((l.energy_basis ≡ wrap w32 (energy_sum l.frame_8khz (start_of_lem l.k - (14 + l.i)) 40)) × ((l.c_8khz ≡ filled (value_at l.frame_8khz l.marks l.k) l.i (replicate 132 (pos 0))) × ((q : ℕ) → q < l.i → zero_at l.frame_8khz l.marks l.k q ≡ false)))))

@@ -7,7 +7,7 @@ use Rattle.stage3.proofs.end_lag.Goals as goal
 
 pub returns : goal.returns
 unfolding last_tried
-returns c = c.smaller.ensures ∙ ap (min (c.args.lag + 2)) c.greatest_lag.ensures
+returns c = c.min.ensures ∙ ap (min (c.args.lag + 2)) c.greatest_lag.ensures
 
 pub overflow_add-lag : goal.overflow_add-lag
 overflow_add-lag c = search zneeds
@@ -15,5 +15,5 @@ overflow_add-lag c = search zneeds
 pub greatest_lag-requires : goal.greatest_lag-requires
 greatest_lag-requires c = search zneeds
 
-pub smaller-requires : goal.smaller-requires
-smaller-requires c = search zneeds
+pub min-requires : goal.min-requires
+min-requires c = search zneeds

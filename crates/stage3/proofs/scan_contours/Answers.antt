@@ -1,5 +1,5 @@
 -- `stage3::scan_contours` meets its contract. The invariant: what is known after the pairs of the earlier lags and of the contours below j.
-use Rattle.stage3.specs.declared.SearchState.TheVariants.{Stopped}
+use Rattle.std.specs.Prelude.{None}
 use mathlib.Core.Path.{◌≡◌, sym, ap, ◌∙◌, subst, subst₂}
 use Prim.Native.Nat.{ℕ, ◌+◌, ◌-◌, ◌*◌, ◌<◌}
 use lib.IntN.{ℤ, pos}
@@ -78,23 +78,24 @@ consider-requires c =
       tried_pair = record { settings = r.settings; rate_low = r.rate_low; rate_high = r.rate_high; lag_high = omega (arith, c.requires.lag_bound, l); used = omega arith };
     }
 
-pub returns-in_default : goal.returns-in_default
-returns-in_default c =
+pub returns-in_err-now_best : goal.returns-in_err-now_best
+returns-in_err-now_best c =
     let a = c.args in
     let f = first_tried a.by.fs a.by.lag in
     let n = in_use a.by.nb a.by.complexity in
     let X = a.cross_corr_st3.now in
     let E = a.energies_st3.now in
     let z = to_z w32 (of_z w32 a.energy_target) in
-    let x = subst (AfterFirst (array_choice X E z a.by) ((a.d - f) * n + (c.loop-j.j + 1))) c.in_default.is (went (goal.at.returns-in_default c).After-consider) in
+    let x = subst (AfterFirst (array_choice X E z a.by) ((a.d - f) * n + (c.loop-j.j + 1))) c.in_err-now_best.was (went (goal.at.returns-in_err-now_best c).After-consider) in
     let e = row_end a.d f n c.requires.lag_bound.0 in
     let u = c.nb_cbk_search-nb_cbk_search.ensures in
     let h : c.loop-j.j < n = omega arith in
     let y = stopped_more (array_choice X E z a.by) _ ((a.d + 1 - f) * n) (omega arith) x in
-    subst (λ (z : ℤ). AfterFirst (array_choice X E z a.by) ((a.d + 1 - f) * n) Stopped) (r_var c.ranges.energy_target).val y
+    subst (AfterFirst (array_choice X E a.energy_target a.by) ((a.d + 1 - f) * n)) (sym c.from_residual.ensures)
+    (subst (λ (z : ℤ). AfterFirst (array_choice X E z a.by) ((a.d + 1 - f) * n) None) (r_var c.ranges.energy_target).val y)
 
 pub loop-j-preserved : goal.loop-j-preserved
-loop-j-preserved c = subst (AfterFirst _ _) c.in-Going.is (went (goal.at.loop-j-preserved c).After-consider)
+loop-j-preserved c = subst (AfterFirst _ _) c.in_ok-now_best.was (went (goal.at.loop-j-preserved c).After-consider)
 
 pub returns : goal.returns
 returns c =

@@ -8,7 +8,7 @@ use mir.Syntax.{w32}
 use mir.Val.{to_z, of_z}
 use Rattle.zint.specs.ReadLaws.{r_var}
 use Rattle.silk_tables.specs.Tables.{in_use}
-use Rattle.stage3.specs.Pick.{first_tried, last_tried, pick}
+use Rattle.stage3.specs.Pick.{answer_of, first_tried, last_tried, pick}
 use Rattle.stage3.specs.PickLaws.{last_in, first_le_last}
 use Rattle.silk_tables.specs.ContourLaws.{greatest_lag_le}
 use Rattle.stage3.specs.Search.{array_choice, Scanned, BestOfFirst, AfterFirst}
@@ -49,21 +49,22 @@ scan_contours-requires c =
       best_of_first = c.loop-d.invariant;
     }
 
-pub returns-in_default : goal.returns-in_default
-returns-in_default c =
+pub returns-in_err-best : goal.returns-in_err-best
+returns-in_err-best c =
     let a = c.args in
     let X = a.cross_corr_st3.now in
     let E = a.energies_st3.now in
     let ch = array_choice X E (to_z w32 (of_z w32 a.energy_target)) a.by in
-    let x = subst (AfterFirst ch _) c.in_default.is c.scan_contours.ensures in
+    let x = subst (AfterFirst ch _) c.in_err-best.was c.scan_contours.ensures in
     let f = c.end_lag-end.ensures in
     let l : c.loop-d.d ≤ last_tried a.by.fs a.by.lag = omega arith in
     let m = pairs_le ch c.loop-d.d l in
-    stopped_pick ch x.0 (omega (arith, x.1)) x.2
+    ap answer_of c.from_residual.ensures
+    ∙ stopped_pick ch x.0 (omega (arith, x.1)) x.2
     ∙ ap (λ (z : ℤ). pick (array_choice X E z a.by)) (r_var c.ranges.energy_target).val
 
 pub loop-d-preserved : goal.loop-d-preserved
-loop-d-preserved c = subst (AfterFirst _ _) c.in-Going.is c.scan_contours.ensures
+loop-d-preserved c = subst (AfterFirst _ _) c.in_ok-best.was c.scan_contours.ensures
 
 pub returns : goal.returns
 returns c =

@@ -8,7 +8,7 @@ use lib.Signed.{quot_z}
 use mir.Syntax.{w32}
 use mir.Val.{SFits}
 use Rattle.zint.specs.ReadLaws.{r_nat, r_got, r_holds}
-use Rattle.stage3.specs.Pick.{bias_of, first_tried}
+use Rattle.stage3.specs.Pick.{answer_of, bias_of, first_tried}
 use Rattle.stage3.specs.PickLaws.{first_low, last_le, first_le_last}
 use Rattle.stage3_arrays.specs.Arrays.{LagInFrame}
 use Rattle.silk_tables.specs.ContourLaws.{greatest_lag_le}
@@ -55,10 +55,10 @@ pub returns : goal.returns
 returns c =
     let a = c.args in
     let t = c.target_energy-energy_target in
-    let b = and_numbers _ _ _ _ _ c.scan_lags.result
-    (array_pick a.frame.now (record { fs = a.fs_khz; nb = a.nb_subfr; complexity = a.complexity; lag = a.lag }) c.requires c.scan_lags.ensures
+    let b = and_numbers _ _ _ _ _ (answer_of c.scan_lags.result)
+    (array_pick a.frame.now (record { fs = a.s.rate; nb = a.s.nb; complexity = a.s.complexity; lag = a.lag }) c.requires c.scan_lags.ensures
     c.start_lag-first.ensures c.silk_p_ana_calc_corr_st3-cross_corr_st3.ensures c.silk_p_ana_calc_energy_st3-energies_st3.ensures (r_got w32 t.type_inv t.ensures).val) in
-    record { value = b.0; result_value = b.1 }
+    record { value = b.0; numbers = b.1 }
 
 pub start_lag-first-requires : goal.start_lag-first-requires
 start_lag-first-requires c = search zneeds

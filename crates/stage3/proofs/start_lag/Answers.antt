@@ -7,7 +7,7 @@ use Rattle.stage3.proofs.start_lag.Goals as goal
 
 pub returns : goal.returns
 unfolding first_tried
-returns c = c.larger.ensures ∙ ap (max (c.args.lag - 2)) c.least_lag.ensures
+returns c = c.max.ensures ∙ ap (max (c.args.lag - 2)) c.least_lag.ensures
 
 pub overflow_sub-lag : goal.overflow_sub-lag
 overflow_sub-lag c = search zneeds
@@ -15,5 +15,5 @@ overflow_sub-lag c = search zneeds
 pub least_lag-requires : goal.least_lag-requires
 least_lag-requires c = search zneeds
 
-pub larger-requires : goal.larger-requires
-larger-requires c = search zneeds
+pub max-requires : goal.max-requires
+max-requires c = search zneeds

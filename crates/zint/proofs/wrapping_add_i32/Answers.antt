@@ -1,18 +1,9 @@
--- `zint::wrapping_add_i32` meets its contract.
-use Rattle.zint.specs.RuleLaws.{zneeds}
+-- `zint::wrapping_add_i32` meets its contract: std's method, in the words of `wrap`.
+use Rattle.std.proofs.Common.{◌∙◌, ◌+ℤ◌}
+use Rattle.std.proofs.lemmas.Int.{wrapping_add_is}
+use Rattle.std.specs.Int.{w32}
+use Rattle.zint.specs.WrapLaws.{wrap_of_std}
 use Rattle.zint.proofs.wrapping_add_i32.Goals as goal
 
-pub overflow_cast-a : goal.overflow_cast-a
-overflow_cast-a c = search zneeds
-
-pub overflow_cast-b : goal.overflow_cast-b
-overflow_cast-b c = search zneeds
-
-pub overflow_add-a : goal.overflow_add-a
-overflow_add-a c = search zneeds
-
-pub low32-requires : goal.low32-requires
-low32-requires c = search zneeds
-
 pub returns : goal.returns
-returns c = search zneeds depth 10
+returns c = wrapping_add_is w32 c.args.a c.args.b c.ranges.a c.ranges.b ∙ wrap_of_std w32 (c.args.a +ℤ c.args.b)

@@ -1,11 +1,14 @@
 -- `silk_tables::rebuild::lag_of` meets its contract: the sum is read step by step, and the two tests are those of the hold.
-use mathlib.Core.Path.{ap}
+use mathlib.Core.Path.{ap, ◌∙◌}
 use native.Mathlib.Omega.{arith}
 use lib.IntN.{pos, ◌+ℤ◌}
 use mir.Syntax.{w32}
 use mir.Val.{to_z, of_z}
-use Rattle.zint.specs.ClampLaws.{clamp_hi, clamp_lo, clamp_in}
-use Rattle.zint.specs.ReadLaws.{Reads, r_nat, r_as, r_var, r_got, r_add, f_add, t_lt}
+use Rattle.std.specs.Int.{int_min, int_max}
+use Rattle.std.specs.Prelude.{◌≤ℤ◌}
+use Rattle.zint.specs.ClampLaws.{clamp_of_std}
+use Rattle.zint.specs.DiffLaws.{le_of}
+use Rattle.zint.specs.ReadLaws.{Reads, r_nat, r_as, r_var, r_got, r_add, f_add}
 use Rattle.silk_tables.specs.Rebuild.{lag_min, lag_max, primary, book, rebuilt}
 use Rattle.silk_tables.specs.RebuildLaws.{primary_fits}
 use Rattle.silk_tables.proofs.BookLaws.{sum_fits}
@@ -33,24 +36,17 @@ overflow_add-primary c = f_add (least c) (r_var c.ranges.lag_index) (primary_fit
 pub overflow_add-lag : goal.overflow_add-lag
 overflow_add-lag c = f_add (first c.before) (offset c) (sum_fits c.requires)
 
-pub returns-then-lag-greatest : goal.returns-then-lag-greatest
+pub returns : goal.returns
 unfolding rebuilt primary
-returns-then-lag-greatest c =
+returns c =
     let q = c.before in
-    let z = r_add (first q.before) (offset q) (sum_fits c.requires) in
-    clamp_hi _ _ _ _ (greatest q.before).val (t_lt (greatest q.before) z c.if-lag-greatest.true)
-
-pub returns-then-lag-least : goal.returns-then-lag-least
-unfolding rebuilt primary
-returns-then-lag-least c =
-    let q = c.before.before in
     let l = least q.before in
+    let g = greatest q.before in
     let z = r_add (first q.before) (offset q) (sum_fits c.requires) in
-    clamp_lo _ _ _ _ l.val (t_lt (greatest q.before) z c.if-lag-greatest.false) (t_lt z l c.if-lag-least.true)
-
-pub returns-else-lag-least : goal.returns-else-lag-least
-unfolding rebuilt primary
-returns-else-lag-least c =
-    let q = c.before.before in
-    let z = r_add (first q.before) (offset q) (sum_fits c.requires) in
-    clamp_in _ _ _ _ z.val (t_lt (greatest q.before) z c.if-lag-greatest.false) (t_lt z (least q.before) c.if-lag-least.false)
+    let fs = c.args.fs_khz in
+    let h : pos (lag_min fs) ≤ℤ pos (lag_max fs) = le_of (pos (lag_min fs)) (pos (lag_max fs)) (omega arith) in
+    (r_got w32 c.clamp.type_inv (
+    c.clamp.ensures.value
+    ∙ (λ i. int_max (l.val i) (int_min (z.val i) (g.val i)))
+    ∙ clamp_of_std (pos (lag_min fs)) (pos (lag_max fs)) (primary fs c.args.lag_index +ℤ book fs c.args.nb_subfr c.args.k c.args.contour_index) h
+    )).val

@@ -1,7 +1,0 @@
--- `cases_io::room` meets its contract: as many zeros as asked for.
-use Rattle.std.proofs.Common.{ℕ, sym}
-use lib.ListN.{length-replicate}
-use Rattle.cases_io.proofs.room.Goals as goal
-
-pub returns : goal.returns
-returns c = sym (length-replicate {0} {A = ℕ} 1048576 0)

@@ -1,8 +1,0 @@
--- `pitch_recording::sample_room` meets its contract. The level is written, so that nothing unfolds the zeros.
-use Rattle.std.proofs.Common.{ℕ, sym}
-use Rattle.std.proofs.Math.ListN.{length-replicate}
-use Rattle.pitch_recording.specs.Recording.{recording_samples}
-use Rattle.pitch_recording.proofs.sample_room.Goals as goal
-
-pub returns : goal.returns
-returns c = sym (length-replicate {0} {A = ℕ} recording_samples 0)

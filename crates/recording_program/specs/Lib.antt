@@ -1,0 +1,2 @@
+-- What a program over a recording leaves. Laws: `PrintedLaws`.
+pub mod PrintedLaws

@@ -1,0 +1,66 @@
+// What the programs do that take a recording: read it from standard input, and write what they make of it.
+#![tactic(auto)]
+
+ghost use Rattle.std.specs.Prelude.{◌≡◌, List, ◌++◌, ℕ, ◌<◌, ◌≤◌, take, length, IfSome, OnOk};
+ghost use Rattle.std.specs.Io.KnownBytes.{Appends};
+ghost use Rattle.pitch_recording.specs.Recording.{recording_samples, recording_bytes, recording_numbers};
+ghost use Rattle.recording_head.specs.declared.Head.{Head};
+ghost use Rattle.recording_io.specs.ReadAnswer.{most_reads};
+
+use pitch_recording::{RECORDING_BYTES, RECORDING_NUMBERS, RECORDING_SAMPLES};
+use recording_head::Head;
+use recording_io::{Failure, read_recording, write_output};
+use rooms::room;
+use std::io::{Read, Write};
+
+// What a program makes of a recording.
+pub trait RecordingProgram {
+    // the bytes that it makes at most
+    ghost longest: { ℕ };
+
+    // those that it makes of an input with this head
+    ghost made: { Head → List ℕ → List ℕ };
+
+    // Puts them into the first bytes of `out`, for an input that begins with these bytes and has `more` after them; how many they are. Samples and rows are left in the rooms for them.
+    fn make(
+        head: Head,
+        input: &[u8],
+        more: usize,
+        samples: &mut [i16],
+        table: &mut [i32],
+        out: &mut [u8],
+    ) -> usize
+        requires { (0 < more → recording_bytes ≤ length input.now) × (recording_samples ≤ length samples.old) × (recording_numbers ≤ length table.old) × (longest ≤ length out.old) }
+        ensures value { (rest : List ℕ) → length rest ≡ more → take result out.new ≡ made head (input.now ++ rest) }
+        ensures bound { result ≤ longest };
+}
+
+// Writes what the program makes of the input, a recording with this head; `out` is room for it. Where a read fails it writes nothing; that, or a failed write, it says on standard error in the
+// program's name.
+pub fn run_program<P: RecordingProgram, R: Read, W: Write, E: Write>(
+    input: &mut R,
+    output: &mut W,
+    errors: &mut E,
+    name: &[u8],
+    head: Head,
+    out: &mut [u8],
+) -> Result<(), Failure>
+    requires { P.longest ≤ length out.old }
+    ensures { OnOk result (IfSome (R.remaining input.old)
+        (λ xs. length xs < most_reads → Appends (W.contents output.old) (W.contents output.new) (P.made head xs))) }
+{
+    let mut bytes = room::<u8, RECORDING_BYTES>(0);
+    let whole = read_recording(input, errors, name, &mut bytes)?;
+    let n = whole.count;
+    let mut samples = room::<i16, RECORDING_SAMPLES>(0);
+    let mut table = room::<i32, RECORDING_NUMBERS>(0);
+    let made = P::make(
+        head,
+        &bytes[..n],
+        whole.more,
+        &mut samples,
+        &mut table,
+        out,
+    );
+    write_output(output, errors, name, &out[..made])
+}

@@ -1,0 +1,40 @@
+-- `Sections::rows_good` meets its contract.
+use mathlib.Core.Path.{◌≡◌, sym, ap, ◌∙◌}
+use mathlib.Core.Bool.{true}
+use Prim.Native.Nat.{ℕ}
+use native.Mathlib.Omega.{arith}
+use borrow.Author.Count.{below_more}
+use Rattle.std.specs.Prelude.{Some}
+use Rattle.sheet_page.specs.Page.{row_in, readable}
+use Rattle.sheet_page.specs.PageLaws.{voiced_none, voiced_le, counted_voiced, counted_quiet, rows_yes, rows_no}
+use Rattle.sheet_page.proofs.Sections.rows_good.Goals as goal
+use Rattle.sheet_page.proofs.Sections.rows_good.Goals.{then-r-eq0, else-r-eq0}
+
+pub loop-i-init : goal.loop-i-init
+loop-i-init c = (omega arith, sym (voiced_none c.args.self.page.now), λ k h. absurd (omega arith))
+
+pub returns-in_default : goal.returns-in_default
+returns-in_default c =
+    rw (rows_no c.args.self.page.now c.loop-i.i (omega (arith, c.args.self.frames_read)) (sym c.row.ensures ∙ c.in_default.is))
+
+pub overflow_add-seen : goal.overflow_add-seen
+overflow_add-seen c = omega (arith, voiced_le c.args.self.page.now c.loop-i.i)
+
+pub loop-i-preserved : goal.loop-i-preserved
+unfolding readable
+loop-i-preserved c =
+    let p = c.args.self.page.now in
+    let i = c.loop-i.i in
+    let r = c.in-Some.r in
+    let e : row_in p i ≡ Some r = sym c.row.ensures ∙ c.in-Some.is in (
+      omega arith,
+      elim c.if-r-eq0.branch [
+        | then-r-eq0 w ↦ counted_voiced p i r e c.loop-i.invariant.1 w.seen-is w.if-r-eq0.true
+        | else-r-eq0 w ↦ counted_quiet p i r e c.loop-i.invariant.1 w.seen-is w.if-r-eq0.false
+      ],
+      below_more (λ (j : ℕ). readable (row_in p j) ≡ true) i c.loop-i.invariant.2 (ap readable e),
+    )
+
+pub returns : goal.returns
+returns c =
+    rw (rows_yes c.args.self.page.now (λ k l. c.loop-i.invariant.2 k (omega (arith, c.args.self.frames_read))))

@@ -1,0 +1,9 @@
+-- The invariants of `Sections::rows_good`.
+use mathlib.Core.Path.{◌≡◌}
+use mathlib.Core.Bool.{true}
+use Prim.Native.Nat.{ℕ, ◌≤◌, ◌<◌}
+use Rattle.sheet_page.specs.Page.{voiced_before, row_in, readable}
+use Rattle.sheet_page.proofs.Sections.rows_good.Given as goal
+
+abbrev pub invariant-loop-i : goal.invariant-loop-i
+invariant-loop-i l = (l.i ≤ l.self.frames) × (l.seen ≡ voiced_before l.self.page.now l.i) × ((k : ℕ) → k < l.i → readable (row_in l.self.page.now k) ≡ true)

@@ -1,9 +1,0 @@
--- The invariants of `put_section`.
-use Rattle.lists.specs.Put.{Put}
-use Rattle.sheet_sections.specs.Sheet.{count_bytes, rows_of}
-use Rattle.sheet_sections.specs.SheetLaws.{rows_bytes}
-use Prim.Native.Nat.{◌+◌, ◌≤◌}
-use Rattle.sheet_sections.proofs.put_section.Given as goal
-
-abbrev pub invariant-loop-i : goal.invariant-loop-i
-invariant-loop-i l = (l.i ≤ l.frames) × Put l.initial.page (l.at + count_bytes) (rows_bytes l.which (rows_of l.table l.i)) l.end l.page

@@ -1,9 +1,0 @@
--- `stage3::smaller` meets its contract.
-use native.Mathlib.Omega.{arith}
-use Rattle.stage3.proofs.smaller.Goals as goal
-
-pub returns-then-a-b : goal.returns-then-a-b
-returns-then-a-b c = omega arith
-
-pub returns-else-a-b : goal.returns-else-a-b
-returns-else-a-b c = omega arith
