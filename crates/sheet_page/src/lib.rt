@@ -34,6 +34,7 @@ fn settings_at(page: &[u8]) -> Settings
 }
 
 // The settings of a page that begins as a sheet does: as many settings as a sheet has, which it can hold, and a frame count that a sheet may have.
+#[tactic(auto, using(crate::specs::PageLaws::head_means, crate::specs::PageLaws::head_yes, refusals::specs::RefusalsLaws::number_positive), unfolding(crate::specs::Page::frames_in))]
 fn head(page: &[u8]) -> Option<Held>
     ensures good { IsSome result ↔ (head_good page.now ≡ true) }
     ensures settings { IfSome result (λ s. s.settings ≡ sheet_settings page.now) }
@@ -79,6 +80,7 @@ pub struct Sections<'a> {
 
 impl Sections<'_> {
     // The sections of the page, where no byte is missing and none follows, and the pairs and the correlations number the voiced verdicts.
+    #[tactic(auto, using(crate::specs::PageLaws::head_means, crate::specs::PageLaws::sizes_means, crate::specs::PageLaws::sizes_yes, crate::specs::PageLaws::voiced_in_le), unfolding(crate::specs::Page::frames_in, crate::specs::Page::voiced_in, crate::specs::Page::pairs_from, crate::specs::Page::correlations_from))]
     fn of(page: &[u8]) -> Option<Sections>
         ensures good { IsSome result ↔ ((head_good page.now && sizes_good page.now) ≡ true) }
         ensures page { IfSome result (λ s. s.page.now ≡ page.now) }
