@@ -176,7 +176,7 @@ fn put_row_bytes(page: &mut [u8], at: usize, which: Section, r: Row) -> usize
 #[derive(Clone, Copy)]
 pub struct Sheet<'a> {
     pub settings: Held,
-    // the rows are the table's first, as many as there are frames
+    // the rows are the table's first, as many as there are frames: a table and a count, since the definitions take rows so, and the slice of the rows alone would be no plainer
     pub table: &'a [i32],
     pub frames: usize,
     pub voiced: usize,
