@@ -5,7 +5,7 @@ ghost use Rattle.std.specs.Prelude.{◌≡◌};
 ghost use Rattle.pitch_settings.specs.Settings.{rate_known, subframes_known, settings_refusal, settings_no, held_no, frame_length, hop_length};
 
 // The five settings with which a frame is analysed.
-#[derive(Clone, Copy)]
+#[derive(Clone, Copy, PartialEq)]
 pub struct Settings {
     // samples per millisecond (kHz): 8, 12 or 16
     pub rate: usize,

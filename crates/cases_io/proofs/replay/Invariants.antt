@@ -1,0 +1,6 @@
+-- What is left of the list gets shorter.
+use Rattle.std.proofs.Common.{length}
+use Rattle.cases_io.proofs.replay.Given as goal
+
+abbrev pub decreases-loop-rest : goal.decreases-loop-rest
+decreases-loop-rest g l = length l.rest
