@@ -22,13 +22,6 @@ i32_at xs at = wrap w32 (pos (u32_at xs at))
 abbrev pub numbers_at : {A : Type 0} → (List ℕ → ℕ → A) → ℕ → List ℕ → ℕ → ℕ → A
 numbers_at value size xs at k = value xs (at + size * k)
 
--- number k of those of two, or of four, bytes each from `at` on
-abbrev pub i16s_at : List ℕ → ℕ → ℕ → ℤ
-i16s_at = numbers_at i16_at 2
-
-abbrev pub i32s_at : List ℕ → ℕ → ℕ → ℤ
-i32s_at = numbers_at i32_at 4
-
 -- whether there is an element, and it equals z
 unfoldable pub is_number : {A : Type 0} → (A → A → Bool) → A → Option A → Bool
 is_number eq z None = false

@@ -5,10 +5,13 @@
 ghost use Rattle.std.specs.Prelude.{List, ℕ, ◌≡◌, ◌+◌, ◌*◌, ◌<◌, ◌≤◌, min, take, length, IfSome, IfOk, OnOk, slice_index};
 ghost use Rattle.std.specs.Io.{ReadsAtMost};
 ghost use Rattle.std.specs.Io.KnownBytes.{Appends, Consumes, IsAtEnd};
+ghost use Rattle.std.specs.Fn.{FnReturnsAt};
 ghost use Rattle.lists.specs.Fill.{filled};
 ghost use Rattle.cases_io.specs.Little.{u16_at, u32_at, u64_at, i16_at, i32_at, numbers_at, agree};
 ghost use Rattle.cases_io.specs.LittleLaws.{i16_cut, i32_cut};
-ghost use Rattle.cases_io.specs.Counts.{same_settings, counted, tally_after, tally_plus, counted_at, totals_of};
+ghost use Rattle.cases_io.specs.Counts.{same_settings, counted, tally, tally_after, tally_plus, counted_at, totals_of};
+ghost use Rattle.cases_io.specs.Replay.{Replayed};
+ghost use Rattle.cases_io.specs.declared.Tally.{Tally};
 ghost use Rattle.cases_io.specs.Lines.{tally_line, report_text};
 
 use pitch_settings::Settings;
@@ -54,7 +57,7 @@ pub fn byte_at(bytes: &[u8], at: usize) -> u8
     if at < bytes.len() { bytes[at] } else { 0 }
 }
 
-// The number of two bytes at `at`, without sign.
+// The number of two bytes at `at`, without sign. `u16::from_le_bytes` would be no plainer here and in the next two: a byte past the end is 0, so its array would be filled byte by byte.
 pub fn u16_at(bytes: &[u8], at: usize) -> u16
     ensures { result ≡ u16_at bytes.now at }
 {
@@ -193,7 +196,7 @@ pub fn settings_at(bytes: &[u8], at: usize) -> Settings
     }
 }
 
-// Whether the two are the same settings, number by number.
+// Whether the two are the same settings. The contract says what `==` of the derive compares: each of the five numbers.
 pub fn same_settings(a: Settings, b: Settings) -> bool
     ensures { result ≡ same_settings a b }
 {
@@ -287,11 +290,13 @@ pub fn replay<W: Write, S: Fn(&[u8]) -> usize, A: Fn(&[u8]) -> Option<bool>>(
 ) -> io::Result<()>
     requires sized { S.IsAlwaysCallable size }
     requires answered { A.IsAlwaysCallable agrees }
+    ensures { OnOk result ((t : Tally) × Replayed (FnReturnsAt S.Fn size) (FnReturnsAt A.Fn agrees) (tally 0 0) list.now t
+        × Appends (W.contents output.old) (W.contents output.new) (tally_line name.now t)) }
 {
     let mut tally = Tally::none();
     let mut rest = list;
     while !rest.is_empty() {
-        let (case, after) = rest.split_at(size(rest).clamp(1, rest.len()));
+        let (case, after) = rest.split_at(size(rest).max(1).min(rest.len()));
         if let Some(agreed) = agrees(case) {
             tally = tally.counted(agreed);
         }

@@ -1,5 +1,5 @@
 -- `cases_io::nth` meets its contract: the place that is read is cut to the end.
-use Rattle.std.proofs.Common.{◌≡◌, ℕ, ◌+◌, ◌-◌, ◌*◌, ◌^◌, ◌≤◌, ◌<◌, min, length, ◌∙◌, arith, mul_comm}
+use Rattle.std.proofs.Common.{◌≡◌, ℕ, ◌+◌, ◌-◌, ◌*◌, ◌^◌, ◌<◌, min, ◌∙◌, arith, mul_comm}
 use Rattle.cases_io.proofs.nth.Goals as goal
 
 -- a product past every number is past the end of every list

@@ -1,5 +1,5 @@
 -- `cases_io::same` meets its contract.
-use Rattle.std.proofs.Common.{◌≡◌, ◌<◌, length, not, true, false, sym, ◌∙◌, refl, arith}
+use Rattle.std.proofs.Common.{◌≡◌, ◌<◌, length, true, false, sym, ◌∙◌, refl, arith}
 use Rattle.std.proofs.lemmas.Bool.{not-true, not-false}
 use Rattle.std.proofs.lemmas.Option.{slice_get_read}
 use Rattle.cases_io.specs.LittleLaws.{agree_none, agree_next, agree_not, agree_all}
