@@ -21,7 +21,7 @@ struct LagSettings {
 }
 
 // The place in the list that comes next, and the count so far.
-#[derive(Drop)]
+#[derive(Clone, Copy)]
 struct Run {
     at: usize,
     tally: Tally,
@@ -104,35 +104,31 @@ fn all_complexities<W: Write>(
     at: usize,
     fs_khz: usize,
     nb_subfr: usize,
-    name: &[u8],
 ) -> io::Result<usize> {
     let mut now = Run {
-        at: at,
+        at,
         tally: Tally::none(),
     };
     for complexity in 0..3 {
-        now = all_indices(
-            bytes,
-            now,
-            LagSettings {
-                fs_khz: fs_khz,
-                nb_subfr: nb_subfr,
-                complexity: complexity,
-            },
-        );
+        let s = LagSettings {
+            fs_khz,
+            nb_subfr,
+            complexity,
+        };
+        now = all_indices(bytes, now, s);
     }
-    let end = now.at;
-    now.tally.print(output, name)?;
-    Ok(end)
+    write!(output, "{fs_khz} kHz, {nb_subfr} subframes:")?;
+    now.tally.print(output, b"")?;
+    Ok(now.at)
 }
 
 fn replay<W: Write>(output: &mut W, bytes: &[u8]) -> io::Result<()> {
-    let at = all_complexities(output, bytes, 0, 8, 2, b"8 kHz, 2 subframes:")?;
-    let at = all_complexities(output, bytes, at, 8, 4, b"8 kHz, 4 subframes:")?;
-    let at = all_complexities(output, bytes, at, 12, 2, b"12 kHz, 2 subframes:")?;
-    let at = all_complexities(output, bytes, at, 12, 4, b"12 kHz, 4 subframes:")?;
-    let at = all_complexities(output, bytes, at, 16, 2, b"16 kHz, 2 subframes:")?;
-    let at = all_complexities(output, bytes, at, 16, 4, b"16 kHz, 4 subframes:")?;
+    let mut at = 0;
+    for fs_khz in [8, 12, 16] {
+        for nb_subfr in [2, 4] {
+            at = all_complexities(output, bytes, at, fs_khz, nb_subfr)?;
+        }
+    }
     Tally::none()
         .counted(at == bytes.len())
         .print(output, b"end of the list:")

@@ -8,10 +8,7 @@
 ghost use Rattle.std.specs.Prelude.{◌≡◌, ◌<◌, ◌≤◌, length};
 ghost use Rattle.pitch_recording.specs.Recording.{recording_samples};
 
-use crate::least;
-use cases_io::{
-    byte_at, i32_at, load_i16s, same_i16s, same_settings, settings_at, skip, u32_at, usize_at,
-};
+use cases_io::{byte_at, i32_at, load, same, same_settings, settings_at, skip, u32_at, usize_at};
 use pitch_recording::RECORDING_SAMPLES;
 use pitch_settings::LONGEST_FRAME;
 use pitch_table::{MOST_FRAMES, ROW_SIZE};
@@ -32,13 +29,6 @@ struct Lists {
     rows: usize,
     places: usize,
     end: usize,
-}
-
-// Whether each delivery was answered as told, and the state that they left.
-#[derive(Drop)]
-struct Chain {
-    same: bool,
-    track: Track,
 }
 
 fn lists_of(body: &[u8]) -> Lists {
@@ -82,8 +72,8 @@ fn settings_of(body: &[u8]) -> TrackSettings {
 // The state that the body hands in.
 fn handed_in(body: &[u8]) -> Track {
     let mut held = [UNLISTED; LONGEST_FRAME];
-    let n = least(u32_at(body, 62), LONGEST_FRAME);
-    load_i16s(body, 114, &mut held[..n]);
+    let n = u32_at(body, 62).min(LONGEST_FRAME);
+    load(body, 114, &mut held[..n]);
     let settings = settings_of(body);
     let prev = Prev {
         lag: i32_at(body, 50),
@@ -133,33 +123,30 @@ fn delivery_agrees(body: &[u8], at: usize, a: TrackAnswer, frames: usize, count:
         && answer_agrees(a, number, frames)
 }
 
-// Delivers the samples part by part, up to the first answer that is another than the one told.
-fn deliver_all(body: &[u8], from: usize, samples: &[i16], table: &mut [i32]) -> Chain {
-    let deliveries = u32_at(body, 70);
+// Delivers the samples part by part. The state that they leave, or none where an answer is another than the one told.
+fn deliver_all(body: &[u8], from: usize, samples: &[i16], table: &mut [i32]) -> Option<Track> {
     let mut track = first_track(body);
     let mut at = 0;
-    let mut i = 0;
-    while i < deliveries {
+    for i in 0..u32_at(body, 70) {
         let told = skip(body, from, 21 * i);
-        let end = at + least(u32_at(body, told), samples.len() - at);
+        let end = at + u32_at(body, told).min(samples.len() - at);
         let part = &samples[at..end];
         let d = track.deliver(part, table);
         track = d.track;
         let a = d.answer;
         if !delivery_agrees(body, told, a, track.frames, track.count) {
-            return Chain { same: false, track };
+            return None;
         }
         at = end;
-        i += 1;
     }
-    Chain { same: true, track }
+    Some(track)
 }
 
 // Whether the places for samples are as told from `at` on, as many as are listed.
 fn places_agree(body: &[u8], at: usize, t: Track) -> bool {
     let held = t.held;
-    let n = least(u32_at(body, 78), LONGEST_FRAME);
-    same_i16s(body, at, &held[..n])
+    let n = u32_at(body, 78).min(LONGEST_FRAME);
+    same(body, at, &held[..n])
 }
 
 // Whether a second threshold is as told.
@@ -223,7 +210,7 @@ fn number_told(body: &[u8], rows: usize, first: usize, end: usize, i: usize) -> 
 fn table_agrees(body: &[u8], rows: usize, table: &[i32]) -> bool
     requires { 32800 ≡ length table.now }
 {
-    let first = ROW_SIZE * least(usize_at(body, 34), MOST_FRAMES);
+    let first = ROW_SIZE * usize_at(body, 34).min(MOST_FRAMES);
     let end = first + ROW_SIZE * u32_at(body, 74);
     for i in 0..table.len() {
         if table[i] != number_told(body, rows, first, end, i) {
@@ -238,21 +225,21 @@ fn samples_of(body: &[u8], at: usize) -> [i16; RECORDING_SAMPLES]
     ensures { recording_samples ≡ length result }
 {
     let mut samples = room::<i16, RECORDING_SAMPLES>(0);
-    let n = least(u32_at(body, 66), RECORDING_SAMPLES);
-    load_i16s(body, at, &mut samples[..n]);
+    let n = u32_at(body, 66).min(RECORDING_SAMPLES);
+    load(body, at, &mut samples[..n]);
     samples
 }
 
 // Whether the deliveries are answered, and leave state and table, as the body tells.
 pub fn agrees(body: &[u8], size: usize) -> bool {
-    let numbers = least(u32_at(body, 58), 32800);
+    let numbers = u32_at(body, 58).min(32800);
     let p = lists_of(body);
     let samples = samples_of(body, p.samples);
     let mut table = blank_table();
-    let chain = deliver_all(body, p.deliveries, &samples, &mut table[..numbers]);
-    let same = chain.same;
-    let track = chain.track;
-    same && p.end == size
+    let Some(track) = deliver_all(body, p.deliveries, &samples, &mut table[..numbers]) else {
+        return false;
+    };
+    p.end == size
         && start_agrees(body)
         && end_agrees(body, p.places, track)
         && table_agrees(body, p.rows, &table)
