@@ -81,29 +81,15 @@ fn div32_16_agrees(t: Case) -> bool {
     }
 }
 
-// The value, where the divisor is not 0 and c is in range.
-fn varq(t: Case) -> Option<Option<i32>> {
+// Whether the quotient is this one, or none where the divisor is 0.
+fn varq_agrees(t: Case, said: Option<i32>) -> bool {
     if t.c < 0 {
-        return None;
+        return false;
     }
     if t.c >= 60 {
-        return None;
+        return false;
     }
-    Some(silk_div32_varq(t.a, t.b, t.c))
-}
-
-fn varq_agrees(t: Case) -> bool {
-    match varq(t) {
-        Some(Some(v)) => v == t.said,
-        _ => false,
-    }
-}
-
-fn varq_is_zero_divisor(t: Case) -> bool {
-    match varq(t) {
-        Some(None) => true,
-        _ => false,
-    }
+    silk_div32_varq(t.a, t.b, t.c) == said
 }
 
 // Both numbers stand in one: how many zeros lead, times 256, and the fraction.
@@ -215,13 +201,19 @@ fn replay_all<W: Write>(o: &mut W, list: &[u8]) -> io::Result<()> {
     )?;
     line(o, list, 13, b"silk_div32", div32_agrees)?;
     line(o, list, 14, b"silk_div32_16", div32_16_agrees)?;
-    line(o, list, 15, b"silk_div32_varq", varq_agrees)?;
+    line(
+        o,
+        list,
+        15,
+        b"silk_div32_varq",
+        |t| varq_agrees(t, Some(t.said)),
+    )?;
     line(
         o,
         list,
         16,
         b"silk_div32_varq by zero",
-        varq_is_zero_divisor,
+        |t| varq_agrees(t, None),
     )?;
     line(
         o,
