@@ -5,22 +5,24 @@
 
 ghost use Rattle.std.specs.Prelude.{true, [], ◌∷◌, ◌≡◌};
 ghost use Rattle.answers.specs.Answer.{answer_numbers};
+ghost use Rattle.refusals.specs.Refusals.{told};
 ghost use Rattle.cases_io.specs.Little.{u32_at, i32_at};
 ghost use Rattle.speech_threshold.specs.Threshold.{threshold_call, threshold_answer_numbers};
 
 use cases_io::{LIST_BYTES, i32_at, read_full, replay, u32_at};
+use refusals::Refusal;
 use rooms::room;
-use speech_threshold::{ThresholdAnswer, speech_threshold};
+use speech_threshold::Speech;
 use std::io;
 use std::io::Write;
 
 // Whether the answer is this number, with this threshold where the number is 0.
-fn says(answer: ThresholdAnswer, number: usize, threshold: i32) -> bool
-    ensures { result ≡ true → threshold_answer_numbers answer ≡ answer_numbers number (threshold ∷ []) }
+fn says(answer: Result<i32, Refusal>, number: usize, threshold: i32) -> bool
+    ensures { result ≡ true → threshold_answer_numbers (told answer) ≡ answer_numbers number (threshold ∷ []) }
 {
     match answer {
-        ThresholdAnswer::Threshold(value) => number == 0 && value == threshold,
-        ThresholdAnswer::Refused(no) => number != 0 && no == number,
+        Ok(value) => number == 0 && value == threshold,
+        Err(refusal) => number != 0 && refusal.number() == number,
     }
 }
 
@@ -29,17 +31,15 @@ fn agrees(case: &[u8]) -> bool
     ensures { result ≡ true → threshold_answer_numbers (threshold_call (i32_at case.now 4) (i32_at case.now 8) (i32_at case.now 12) (i32_at case.now 16))
         ≡ answer_numbers (u32_at case.now 20) (i32_at case.now 24 ∷ []) }
 {
-    let order = i32_at(case, 4);
-    let activity = i32_at(case, 8);
     let signal_type = i32_at(case, 12);
-    let tilt = i32_at(case, 16);
+    let speech = Speech {
+        order: i32_at(case, 4),
+        activity: i32_at(case, 8),
+        tilt: i32_at(case, 16),
+    };
     let number = u32_at(case, 20);
     let threshold = i32_at(case, 24);
-    says(
-        speech_threshold(order, activity, signal_type, tilt),
-        number,
-        threshold,
-    )
+    says(speech.threshold(signal_type), number, threshold)
 }
 
 // Counts the cases of one kind and prints the line.
