@@ -7,8 +7,8 @@ ghost use Rattle.std.specs.Prelude.{◌≤◌};
 ghost use Rattle.std.proofs.Common.{rules};
 
 use cases_io::{Records, byte_at, i32_at, load, nth, read_full, replay_input, report, same, skip};
-use pitch_settings::{Settings, frame_length, settings_no};
-use silk_pitch_analysis::{FrameAnswer, Verdict, silk_pitch_analysis_core};
+use pitch_settings::Settings;
+use silk_pitch_analysis::{Verdict, silk_pitch_analysis_core};
 use std::io;
 use std::io::Read;
 
@@ -45,8 +45,7 @@ fn agrees(body: &[u8], n: usize, s: Settings, prev_lag: i32, prev_corr: i32) -> 
     let mut frame = [0i16; 640];
     let mut lags = [UNTOUCHED; 4];
     load(body, 0, &mut frame);
-    let answer = silk_pitch_analysis_core(&frame[..n], &mut lags, s, prev_lag, prev_corr);
-    let FrameAnswer::Analysed(v) = answer else {
+    let Ok(v) = silk_pitch_analysis_core(&frame[..n], &mut lags, s, prev_lag, prev_corr) else {
         return false;
     };
     verdict_agrees(body, row, v)
@@ -71,10 +70,10 @@ fn settings_of(head: &[u8]) -> Settings {
 fn samples_of(s: Settings) -> usize
     ensures { result ≤ 640 }
 {
-    if settings_no(s) != 0 {
-        return 0;
+    match s.analysed() {
+        Ok(analysed) => analysed.frame_length(),
+        Err(_) => 0,
     }
-    frame_length(s)
 }
 
 struct Frames;
