@@ -14,9 +14,10 @@ use cases_io::{
     Records, byte_at, i32_at, read_full, replay_input, report, same_settings, settings_at, skip,
     u16_at, u32_at, usize_at,
 };
-use pitch_settings::Settings;
-use pitch_sheet::{Got, Wrote, read_sheet, write_sheet};
+use pitch_settings::{Held, Settings};
+use pitch_sheet::{read_sheet, write_sheet};
 use pitch_table::{MOST_FRAMES, ROW_SIZE};
+use refusals::Refusal;
 use std::io;
 use std::io::Read;
 
@@ -124,19 +125,19 @@ fn page_agrees(body: &[u8], at: usize, new: usize, page: &[u8]) -> bool {
             .all(|(i, byte)| *byte == page_after(body, at, new, i))
 }
 
-fn wrote_agrees(c: Case, answer: Wrote) -> bool {
+fn wrote_agrees(c: Case, answer: Result<usize, Refusal>) -> bool {
     match answer {
-        Wrote::Written(bytes) => c.number == 0 && bytes == c.bytes,
-        Wrote::Refused(number) => c.number != 0 && number == c.number && c.bytes == 0,
+        Ok(bytes) => c.number == 0 && bytes == c.bytes,
+        Err(refusal) => refusal.number() == c.number && c.bytes == 0,
     }
 }
 
-fn got_agrees(c: Case, answer: Got) -> bool {
+fn got_agrees(c: Case, answer: Result<(Held, usize), Refusal>) -> bool {
     match answer {
-        Got::Read(settings, frames) => c.number == 0
+        Ok((held, frames)) => c.number == 0
             && frames == c.frames
-            && same_settings(settings, c.settings),
-        Got::Refused(number) => c.number != 0 && number == c.number && c.frames == 0,
+            && same_settings(held.settings, c.settings),
+        Err(refusal) => refusal.number() == c.number && c.frames == 0,
     }
 }
 
