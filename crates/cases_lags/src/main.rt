@@ -7,7 +7,7 @@ ghost use Rattle.std.specs.Prelude.{◌<◌, ◌≤◌};
 
 use cases_io::{LIST_BYTES, Tally, byte_at, read_full, skip, u16_at};
 use rooms::room;
-use silk_tables::rebuild::{Rebuilt, rebuilt_lag};
+use silk_tables::rebuild::rebuilt_lag;
 use silk_tables::{contours_in_use, greatest_index};
 use std::io;
 use std::io::Write;
@@ -38,23 +38,12 @@ fn is_of(bytes: &[u8], at: usize, s: LagSettings, index: usize, contour: usize) 
 
 // Whether the lag of subframe k is the one at `at`.
 fn lag_agrees(bytes: &[u8], at: usize, s: LagSettings, index: i32, contour: i32, k: usize) -> bool {
-    let Rebuilt::Lag(lag) = rebuilt_lag(s.fs_khz, s.nb_subfr, s.complexity, index, contour, k)
-    else {
-        return false;
-    };
-    lag == u16_at(bytes, at) as i32
+    rebuilt_lag(s.fs_khz, s.nb_subfr, s.complexity, index, contour, k) == Some(u16_at(bytes, at) as i32)
 }
 
 // Whether the lags of all subframes are those from `at` on.
 fn lags_agree(bytes: &[u8], at: usize, s: LagSettings, index: i32, contour: i32) -> bool {
-    let mut place = at;
-    for k in 0..s.nb_subfr {
-        if !lag_agrees(bytes, place, s, index, contour, k) {
-            return false;
-        }
-        place = skip(bytes, place, 2);
-    }
-    true
+    (0..s.nb_subfr).all(|k| lag_agrees(bytes, skip(bytes, at, k.saturating_mul(2)), s, index, contour, k))
 }
 
 // One pair: its record, and the place after it.
