@@ -36,14 +36,16 @@ fn is_of(bytes: &[u8], at: usize, s: LagSettings, index: usize, contour: usize) 
         && byte_at(bytes, skip(bytes, at, 5)) as usize == contour
 }
 
-// Whether the lag of subframe k is the one at `at`.
+// Whether the lag of subframe k is number k of those from `at` on.
 fn lag_agrees(bytes: &[u8], at: usize, s: LagSettings, index: i32, contour: i32, k: usize) -> bool {
-    rebuilt_lag(s.fs_khz, s.nb_subfr, s.complexity, index, contour, k) == Some(u16_at(bytes, at) as i32)
+    let place = skip(bytes, at, k.saturating_mul(2));
+    rebuilt_lag(s.fs_khz, s.nb_subfr, s.complexity, index, contour, k)
+        == Some(u16_at(bytes, place) as i32)
 }
 
 // Whether the lags of all subframes are those from `at` on.
 fn lags_agree(bytes: &[u8], at: usize, s: LagSettings, index: i32, contour: i32) -> bool {
-    (0..s.nb_subfr).all(|k| lag_agrees(bytes, skip(bytes, at, k.saturating_mul(2)), s, index, contour, k))
+    (0..s.nb_subfr).all(|k| lag_agrees(bytes, at, s, index, contour, k))
 }
 
 // One pair: its record, and the place after it.

@@ -103,6 +103,18 @@ fn main(rt: HostRuntime) -> io::Result<()> {
     let list = &bytes[..n];
     let mut output = rt.stdout();
     replay_kind(&mut output, b"silk_resampler_down2", list, 0, down2_agrees)?;
-    replay_kind(&mut output, b"silk_resampler_private_ar2", list, 1, private_ar2_agrees)?;
-    replay_kind(&mut output, b"silk_resampler_down2_3", list, 2, down2_3_agrees)
+    replay_kind(
+        &mut output,
+        b"silk_resampler_private_ar2",
+        list,
+        1,
+        private_ar2_agrees,
+    )?;
+    replay_kind(
+        &mut output,
+        b"silk_resampler_down2_3",
+        list,
+        2,
+        down2_3_agrees,
+    )
 }

@@ -43,15 +43,20 @@ fn agrees(case: &[u8]) -> bool
 }
 
 // Counts the cases of one kind and prints the line.
-fn replay_kind<W: Write>(
-    output: &mut W,
-    list: &[u8],
-    kind: i32,
-    name: &[u8],
-) -> io::Result<()> {
-    replay(output, name, list, |_| 28, |case| {
-        if i32_at(case, 0) == kind { Some(agrees(case)) } else { None }
-    })
+fn replay_kind<W: Write>(output: &mut W, list: &[u8], kind: i32, name: &[u8]) -> io::Result<()> {
+    replay(
+        output,
+        name,
+        list,
+        |_| 28,
+        |case| {
+            if i32_at(case, 0) == kind {
+                Some(agrees(case))
+            } else {
+                None
+            }
+        },
+    )
 }
 
 fn main(rt: HostRuntime) -> io::Result<()> {
