@@ -3,24 +3,17 @@
 // (2 bytes each), then the source's row: verdict, lag index, contour, correlation and four lags (4 bytes each). All are little-endian.
 #![tactic(auto)]
 
-ghost use Rattle.std.specs.Prelude.{◌<◌, ◌≤◌};
+ghost use Rattle.std.specs.Prelude.{◌≤◌};
+ghost use Rattle.std.proofs.Common.{rules};
 
-use cases_io::{byte_at, count, i32_at, load_i16s, read_full, report, skip};
-use pitch_settings::{Settings, frame_length, settings_no};
-use silk_pitch_analysis::{FrameAnswer, Verdict, silk_pitch_analysis_core};
+use cases_io::{Records, byte_at, i32_at, load, nth, read_full, replay_input, report, same, skip};
+use pitch_settings::Settings;
+use silk_pitch_analysis::{Verdict, silk_pitch_analysis_core};
 use std::io;
-use std::io::{Read, Write};
+use std::io::Read;
 
 // What the lag places hold before the call; no lag is negative.
 const UNTOUCHED: i32 = -7;
-
-// Whether the row at `at` begins with these four numbers.
-fn begins(row: &[u8], at: usize, verdict: i32, index: i32, contour: i32, correlation: i32) -> bool {
-    i32_at(row, at) == verdict
-        && i32_at(row, skip(row, at, 4)) == index
-        && i32_at(row, skip(row, at, 8)) == contour
-        && i32_at(row, skip(row, at, 12)) == correlation
-}
 
 fn verdict_agrees(row: &[u8], at: usize, v: Verdict) -> bool {
     match v {
@@ -28,17 +21,15 @@ fn verdict_agrees(row: &[u8], at: usize, v: Verdict) -> bool {
             index,
             contour,
             correlation,
-        } => begins(row, at, 0, index, contour, correlation),
-        Verdict::Unvoiced => begins(row, at, 1, 0, 0, 0),
-        Verdict::ZeroDivisor => begins(row, at, 2, 0, 0, 0),
+        } => same(row, at, &[0, index, contour, correlation]),
+        Verdict::Unvoiced => same(row, at, &[1, 0, 0, 0]),
+        Verdict::ZeroDivisor => same(row, at, &[2, 0, 0, 0]),
     }
 }
 
-// Whether the lag place of number k is as the row at `at` says: past the subframes the row has 0, and the place is untouched.
-fn lag_agrees(row: &[u8], at: usize, nb: usize, k: usize, lag: i32) -> bool
-    requires { k < 4 }
-{
-    let expected = i32_at(row, skip(row, at, 16 + 4 * k));
+// Whether the lag place of number k is as the row's lags, from `at` on, say: past the subframes the row has 0, and the place is untouched.
+fn lag_agrees(row: &[u8], at: usize, nb: usize, k: usize, lag: i32) -> bool {
+    let expected = nth(row, at, k);
     if k < nb {
         return lag == expected;
     }
@@ -53,16 +44,15 @@ fn agrees(body: &[u8], n: usize, s: Settings, prev_lag: i32, prev_corr: i32) -> 
     let nb = s.nb;
     let mut frame = [0i16; 640];
     let mut lags = [UNTOUCHED; 4];
-    load_i16s(body, 0, &mut frame);
-    let answer = silk_pitch_analysis_core(&frame[..n], &mut lags, s, prev_lag, prev_corr);
-    let FrameAnswer::Analysed(v) = answer else {
+    load(body, 0, &mut frame);
+    let Ok(v) = silk_pitch_analysis_core(&frame[..n], &mut lags, s, prev_lag, prev_corr) else {
         return false;
     };
     verdict_agrees(body, row, v)
-        && lag_agrees(body, row, nb, 0, lags[0])
-        && lag_agrees(body, row, nb, 1, lags[1])
-        && lag_agrees(body, row, nb, 2, lags[2])
-        && lag_agrees(body, row, nb, 3, lags[3])
+        && lags
+            .iter()
+            .enumerate()
+            .all(|(k, lag)| lag_agrees(body, row + 16, nb, k, *lag))
 }
 
 // The settings of a record's head.
@@ -80,48 +70,37 @@ fn settings_of(head: &[u8]) -> Settings {
 fn samples_of(s: Settings) -> usize
     ensures { result ≤ 640 }
 {
-    if settings_no(s) != 0 {
-        return 0;
+    match s.analysed() {
+        Ok(analysed) => analysed.frame_length(),
+        Err(_) => 0,
     }
-    frame_length(s)
 }
 
-// Reads the rest of a record and tells whether the call agrees. A record that is cut short does not.
-fn record_agrees<R: Read>(input: &mut R, head: &[u8]) -> io::Result<bool> {
-    let s = settings_of(head);
-    let n = samples_of(s);
-    let size = 2 * n + 32;
-    let mut body = [0u8; 1312];
-    let got = read_full(input, &mut body[..size])?;
-    if got != size {
-        return Ok(false);
-    }
-    Ok(agrees(&body, n, s, i32_at(head, 12), i32_at(head, 16)))
-}
+struct Frames;
 
-// Counts the records up to the first that is cut in its head or of an unknown kind, at most 100,000.
-fn replay<R: Read>(input: &mut R, agreed: &mut [u64; 30], total: &mut [u64; 30]) -> io::Result<()> {
-    for _ in 0..100000usize {
-        let mut head = [0u8; 20];
-        let got = read_full(input, &mut head)?;
-        let kind = byte_at(&head, 0) as usize;
-        if got < 20 || kind >= 30 {
-            break;
+impl Records<20, 30> for Frames {
+    fn kind(head: &[u8; 20]) -> Option<usize> {
+        let kind = byte_at(head, 0) as usize;
+        if kind >= 30 {
+            return None;
         }
-        let same = record_agrees(input, &head)?;
-        count(agreed, total, kind, same);
+        Some(kind)
     }
-    Ok(())
-}
 
-// An array's length is known by its type, whatever was counted in it.
-fn report_all<W: Write>(output: &mut W, agreed: &[u64; 30], total: &[u64; 30]) -> io::Result<()> {
-    report(output, agreed, total)
+    // A record that is cut short does not agree.
+    fn agrees<R: Read>(input: &mut R, head: &[u8; 20]) -> io::Result<bool> {
+        let s = settings_of(head);
+        let n = samples_of(s);
+        let size = 2 * n + 32;
+        let mut body = [0u8; 1312];
+        let got = read_full(input, &mut body[..size])?;
+        Ok(got == size && agrees(&body, n, s, i32_at(head, 12), i32_at(head, 16)))
+    }
+
+    ghost few = { Prim.search rules };
 }
 
 fn main(rt: HostRuntime) -> io::Result<()> {
-    let mut agreed = [0u64; 30];
-    let mut total = [0u64; 30];
-    replay(&mut rt.stdin(), &mut agreed, &mut total)?;
-    report_all(&mut rt.stdout(), &agreed, &total)
+    let tallies = replay_input::<Frames, 20, 30, _>(&mut rt.stdin(), 100000)?;
+    report(&mut rt.stdout(), &tallies)
 }

@@ -5,3 +5,5 @@ pub mod Counts
 pub mod CountsLaws
 pub mod Lines
 pub mod LinesLaws
+pub mod Replay
+pub mod ReplayLaws

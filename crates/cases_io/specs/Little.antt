@@ -1,7 +1,6 @@
 -- Little-endian numbers of a list of bytes, and comparison with a list of numbers. A byte past the end is 0. Definitions only; the laws are in `LittleLaws`.
-use Rattle.std.specs.Prelude.{ℕ, zero, suc, ◌+◌, ◌*◌, Bool, true, ◌&&◌, List, ℤ, pos, slice_index, slice_index_or}
+use Rattle.std.specs.Prelude.{ℕ, zero, suc, ◌+◌, ◌*◌, Bool, true, false, ◌&&◌, Option, Some, None, List, ℤ, pos, slice_get, slice_index}
 use Rattle.std.specs.Int.{w16, w32}
-use Rattle.zint.specs.Equal.{eq_z}
 use Rattle.zint.specs.Wrap.{wrap}
 
 unfoldable pub u16_at : List ℕ → ℕ → ℕ
@@ -19,14 +18,16 @@ i16_at xs at = wrap w16 (pos (u16_at xs at))
 unfoldable pub i32_at : List ℕ → ℕ → ℤ
 i32_at xs at = wrap w32 (pos (u32_at xs at))
 
--- number k of those of two, or of four, bytes each from `at` on
-abbrev pub i16s_at : List ℕ → ℕ → ℕ → ℤ
-i16s_at xs at k = i16_at xs (at + 2 * k)
+-- number k of those of `size` bytes each, with these values at their places, from `at` on
+abbrev pub numbers_at : {A : Type 0} → (List ℕ → ℕ → A) → ℕ → List ℕ → ℕ → ℕ → A
+numbers_at value size xs at k = value xs (at + size * k)
 
-abbrev pub i32s_at : List ℕ → ℕ → ℕ → ℤ
-i32s_at xs at k = i32_at xs (at + 4 * k)
+-- whether there is an element, and it equals z
+unfoldable pub is_number : {A : Type 0} → (A → A → Bool) → A → Option A → Bool
+is_number eq z None = false
+is_number eq z (Some y) = eq y z
 
 -- whether the first n of ys are f 0, f 1, .., f (n - 1)
-unfoldable pub agree : (ℕ → ℤ) → List ℤ → ℕ → Bool
-agree f ys zero = true
-agree f ys (suc n) = agree f ys n && eq_z (slice_index_or ys n (pos 0)) (f n)
+unfoldable pub agree : {A : Type 0} → (A → A → Bool) → (ℕ → A) → List A → ℕ → Bool
+agree eq f ys zero = true
+agree eq f ys (suc n) = agree eq f ys n && is_number eq (f n) (slice_get ys n)

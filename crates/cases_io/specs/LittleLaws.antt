@@ -1,14 +1,12 @@
 -- Laws of little-endian numbers: past the end they are 0, so that a place may be cut to the end; and one element more of a load and of a comparison.
-use Rattle.std.specs.Prelude.{◌≡◌, ℕ, zero, suc, ◌+◌, ◌<◌, ◌≤◌, min, Bool, true, false, ◌&&◌, List, [], ◌∷◌, length, ℤ, pos, ◌≢◌, slice_index, slice_index_or, slice_set, refl}
+use Rattle.std.specs.Prelude.{◌≡◌, ℕ, zero, suc, ◌+◌, ◌<◌, ◌≤◌, min, Bool, true, false, ◌&&◌, List, [], ◌∷◌, length, pos, Some, slice_get, slice_index, slice_set, refl}
 use Rattle.std.proofs.Math.Bool.{and-false}
-use Rattle.std.proofs.Common.{sym, ap, ap₂, ◌∙◌, subst, add-one, arith, length-set}
+use Rattle.std.proofs.Common.{sym, ap, ◌∙◌, subst, add-one, arith, length-set}
 use Rattle.std.proofs.Math.Decide.{dec_lt}
 use Rattle.lists.specs.Fill.{filled}
 use Rattle.lists.specs.FillLaws.{filled_none, filled_turn}
-use Rattle.zint.specs.Equal.{eq_z}
-use Rattle.zint.specs.EqualLaws.{eq_z_yes, eq_z_no}
 use Rattle.zint.specs.Wrap.{wrap, mod_z}
-use Rattle.cases_io.specs.Little.{u16_at, u32_at, u64_at, i16_at, i32_at, agree}
+use Rattle.cases_io.specs.Little.{u16_at, u32_at, u64_at, i16_at, i32_at, is_number, agree}
 
 -- ---- past the end
 pub byte_past : (xs : List ℕ) (k : ℕ) → length xs ≤ k → slice_index xs k ≡ 0
@@ -44,43 +42,52 @@ at_cut z F n past place from e = go (dec_lt place n)
     go (yes l) = ap F (omega arith)
     go (no g) = past from (omega arith) ∙ sym (past place (omega arith))
 
--- ---- a loop that loads a list of numbers: out after n of them
-pub record Loaded (f : ℕ → ℤ) (before : List ℤ) (n : ℕ) (out : List ℤ) : Type 0 where
-  pub within : n ≤ length before
-  pub long : length out ≡ length before
-  pub done : out ≡ filled f n before
+pub i16_cut : (xs : List ℕ) (place from : ℕ) → from ≡ min place (length xs) → i16_at xs from ≡ i16_at xs place
+i16_cut xs = at_cut (pos 0) (i16_at xs) (length xs) (i16_past xs)
 
-pub loaded_none : (f : ℕ → ℤ) (l : List ℤ) → Loaded f l 0 l
-loaded_none f l = record { within = omega arith; long = refl; done = filled_none f l }
+pub i32_cut : (xs : List ℕ) (place from : ℕ) → from ≡ min place (length xs) → i32_at xs from ≡ i32_at xs place
+i32_cut xs = at_cut (pos 0) (i32_at xs) (length xs) (i32_past xs)
 
-pub loaded_turn : {f : ℕ → ℤ} {l : List ℤ} {n : ℕ} {out : List ℤ} {v : ℤ} → Loaded f l n out → v ≡ f n → n < length l → Loaded f l (n + 1) (slice_set out n v)
-loaded_turn {f} {l} {n} {out} {v} p e h = record { within = omega arith; long = length-set out n v ∙ p.long; done = filled_turn f n l p.done e h }
+module _ {A : Type 0} where
+  -- ---- a loop that loads a list of numbers: out after n of them
+  pub record Loaded (f : ℕ → A) (before : List A) (n : ℕ) (out : List A) : Type 0 where
+    pub within : n ≤ length before
+    pub long : length out ≡ length before
+    pub done : out ≡ filled f n before
 
-pub loaded_all : {f : ℕ → ℤ} {l : List ℤ} {n : ℕ} {out : List ℤ} → Loaded f l n out → length l ≤ n → out ≡ filled f (length l) l
-loaded_all {f} {l} {n} p h = let e : n ≡ length l = omega (arith, p.within) in p.done ∙ ap (λ (m : ℕ). filled f m l) e
+  pub loaded_none : (f : ℕ → A) (l : List A) → Loaded f l 0 l
+  loaded_none f l = record { within = omega arith; long = refl; done = filled_none f l }
 
--- ---- comparison
-pub agree_none : (f : ℕ → ℤ) (ys : List ℤ) → agree f ys 0 ≡ true
-unfolding agree
-agree_none f ys = refl
+  pub loaded_turn : {f : ℕ → A} {l : List A} {n : ℕ} {out : List A} {v : A} → Loaded f l n out → v ≡ f n → n < length l → Loaded f l (n + 1) (slice_set out n v)
+  loaded_turn {f} {l} {n} {out} {v} p e h = record { within = omega arith; long = length-set out n v ∙ p.long; done = filled_turn f n l p.done e h }
 
--- an element more that agrees
-pub agree_next : (f : ℕ → ℤ) (ys : List ℤ) (n : ℕ) → agree f ys n ≡ true → slice_index_or ys n (pos 0) ≡ f n → agree f ys (n + 1) ≡ true
-unfolding agree
-agree_next f ys n p q = rw add-one (ap₂ (λ (a b : Bool). a && b) p (eq_z_yes q))
+  pub loaded_all : {f : ℕ → A} {l : List A} {n : ℕ} {out : List A} → Loaded f l n out → length l ≤ n → out ≡ filled f (length l) l
+  loaded_all {f} {l} {n} p h = let e : n ≡ length l = omega (arith, p.within) in p.done ∙ ap (λ (m : ℕ). filled f m l) e
 
--- an element that does not
-pub agree_not : (f : ℕ → ℤ) (ys : List ℤ) (k n : ℕ) → k < n → (slice_index_or ys k (pos 0) ≢ f k) → agree f ys n ≡ false
-unfolding agree
-agree_not f ys k zero h g = absurd (omega arith)
-agree_not f ys k (suc n) h g = by_case (λ l. agree_not f ys k n l g) (dec_lt k n)
-  where
-    by_case : (k < n → agree f ys n ≡ false) → Dec (k < n) → (agree f ys n && eq_z (slice_index_or ys n (pos 0)) (f n)) ≡ false
-    by_case rec (yes l) = ap (λ (a : Bool). a && eq_z (slice_index_or ys n (pos 0)) (f n)) (rec l)
-    by_case rec (no m) =
-        let e : k ≡ n = omega arith in
-        ap (λ (b : Bool). agree f ys n && b) (eq_z_no (subst (λ (j : ℕ). slice_index_or ys j (pos 0) ≢ f j) e g)) ∙ and-false (agree f ys n)
+  -- ---- comparison
+  module _ (eq : A → A → Bool) (f : ℕ → A) (ys : List A) where
+    pub agree_none : agree eq f ys 0 ≡ true
+    unfolding agree
+    agree_none = refl
 
--- all that there are
-pub agree_all : (f : ℕ → ℤ) (ys : List ℤ) {n m : ℕ} → agree f ys n ≡ true → n ≡ m → true ≡ agree f ys m
-agree_all f ys p e = sym p ∙ ap (agree f ys) e
+    -- an element more that agrees
+    pub agree_next : (n : ℕ) (y v : A) → agree eq f ys n ≡ true → slice_get ys n ≡ Some y → v ≡ f n → eq y v ≡ true → agree eq f ys (n + 1) ≡ true
+    unfolding agree is_number
+    agree_next n y v p q r e = rw (add-one, p, q, ← r, e) refl
+
+    -- an element that does not
+    pub agree_not : (k n : ℕ) (y v : A) → k < n → slice_get ys k ≡ Some y → v ≡ f k → eq y v ≡ false → agree eq f ys n ≡ false
+    unfolding agree is_number
+    agree_not k zero y v h q r e = absurd (omega arith)
+    agree_not k (suc n) y v h q r e = by_case (λ l. agree_not k n y v l q r e) (dec_lt k n)
+      where
+        by_case : (k < n → agree eq f ys n ≡ false) → Dec (k < n) → (agree eq f ys n && is_number eq (f n) (slice_get ys n)) ≡ false
+        by_case rec (yes l) = ap (λ (a : Bool). a && is_number eq (f n) (slice_get ys n)) (rec l)
+        by_case rec (no m) =
+            let same : k ≡ n = omega arith in
+            let last : is_number eq (f n) (slice_get ys n) ≡ false = subst (λ (j : ℕ). is_number eq (f j) (slice_get ys j) ≡ false) same (ap (is_number eq (f k)) q ∙ ap (eq y) (sym r) ∙ e) in
+            ap (λ (b : Bool). agree eq f ys n && b) last ∙ and-false (agree eq f ys n)
+
+    -- all that there are
+    pub agree_all : {n m : ℕ} → agree eq f ys n ≡ true → n ≡ m → true ≡ agree eq f ys m
+    agree_all p e = sym p ∙ ap (agree eq f ys) e

@@ -1,13 +1,17 @@
 // What a program that replays a list of cases stands on: reading the list, little-endian numbers of a byte slice, comparison with them, and the lines that tell how many agree. A
-// byte past the end reads as 0, and so no place is out of range. Only `count`, `tally_of` and `report` have a `requires`: each kind has its place in both lists of counts.
+// byte past the end reads as 0, and so no place is out of range. Only `count` has a `requires`: each kind has its place among the tallies.
 #![tactic(auto)]
 
-ghost use Rattle.std.specs.Prelude.{◌≡◌, ◌+◌, ◌*◌, ◌%◌, ◌^◌, ◌<◌, min, true, take, length, IfOk, OnOk, slice_index};
+ghost use Rattle.std.specs.Prelude.{List, ℕ, ◌≡◌, ◌+◌, ◌*◌, ◌<◌, ◌≤◌, min, take, length, IfSome, IfOk, OnOk, slice_index};
 ghost use Rattle.std.specs.Io.{ReadsAtMost};
 ghost use Rattle.std.specs.Io.KnownBytes.{Appends, Consumes, IsAtEnd};
+ghost use Rattle.std.specs.Fn.{FnReturnsAt};
 ghost use Rattle.lists.specs.Fill.{filled};
-ghost use Rattle.cases_io.specs.Little.{u16_at, u32_at, u64_at, i16_at, i32_at, i16s_at, i32s_at, agree};
-ghost use Rattle.cases_io.specs.Counts.{same_settings, counted, tally_after, counted_at, count_sum, totals_of};
+ghost use Rattle.cases_io.specs.Little.{u16_at, u32_at, u64_at, i16_at, i32_at, numbers_at, agree};
+ghost use Rattle.cases_io.specs.LittleLaws.{i16_cut, i32_cut};
+ghost use Rattle.cases_io.specs.Counts.{same_settings, counted, tally, tally_after, tally_plus, counted_at, totals_of};
+ghost use Rattle.cases_io.specs.Replay.{Replayed};
+ghost use Rattle.cases_io.specs.declared.Tally.{Tally};
 ghost use Rattle.cases_io.specs.Lines.{tally_line, report_text};
 
 use pitch_settings::Settings;
@@ -16,7 +20,7 @@ use std::io::{Read, Write};
 use zint::{as_i16, low32};
 
 // How many cases there are, and how many agree.
-#[derive(Drop)]
+#[derive(Clone, Copy)]
 pub struct Tally {
     pub agreed: u64,
     pub total: u64,
@@ -49,7 +53,7 @@ pub fn byte_at(bytes: &[u8], at: usize) -> u8
     if at < bytes.len() { bytes[at] } else { 0 }
 }
 
-// The number of two bytes at `at`, without sign.
+// The number of two bytes at `at`, without sign. `u16::from_le_bytes` would be no plainer here and in the next two: a byte past the end is 0, so its array would be filled byte by byte.
 pub fn u16_at(bytes: &[u8], at: usize) -> u16
     ensures { result ≡ u16_at bytes.now at }
 {
@@ -97,68 +101,74 @@ pub fn i32_at(bytes: &[u8], at: usize) -> i32
 pub fn skip(bytes: &[u8], at: usize, by: usize) -> usize
     ensures { result ≡ min (at + by) (length bytes.now) }
 {
-    let end = bytes.len();
-    if at >= end {
-        return end;
+    at.saturating_add(by).min(bytes.len())
+}
+
+// A number of a list: the bytes that it takes, and its value where it stands.
+pub trait Little: Copy + PartialEq {
+    ghost value_at: { List ℕ → ℕ → Self };
+
+    ghost SIZE: { ℕ };
+
+    const SIZE: usize;
+
+    // The number at `at`.
+    fn at(bytes: &[u8], at: usize) -> Self
+        ensures { result ≡ value_at bytes.now at };
+
+    ghost cut: { (xs : List ℕ) (place from : ℕ) → from ≡ min place (length xs) → value_at xs from ≡ value_at xs place };
+}
+
+impl Little for i16 {
+    ghost value_at = { i16_at };
+
+    ghost SIZE = { 2 };
+
+    const SIZE: usize = 2;
+
+    ghost cut = { i16_cut };
+
+    fn at(bytes: &[u8], at: usize) -> i16 {
+        i16_at(bytes, at)
     }
-    if by >= end - at {
-        return end;
+}
+
+impl Little for i32 {
+    ghost value_at = { i32_at };
+
+    ghost SIZE = { 4 };
+
+    const SIZE: usize = 4;
+
+    ghost cut = { i32_cut };
+
+    fn at(bytes: &[u8], at: usize) -> i32 {
+        i32_at(bytes, at)
     }
-    at + by
 }
 
-// Number i of those of two bytes each from `at` on.
-fn nth_i16(bytes: &[u8], at: usize, i: usize) -> i16
-    requires { 2 * i < 2 ^ 64 }
-    ensures { result ≡ i16s_at bytes.now at i }
+// Number i of those that stand from `at` on.
+pub fn nth<T: Little>(bytes: &[u8], at: usize, i: usize) -> T
+    ensures { result ≡ T.value_at bytes.now (at + T.SIZE * i) }
 {
-    i16_at(bytes, skip(bytes, at, 2 * i))
+    T::at(bytes, skip(bytes, at, i.saturating_mul(T::SIZE)))
 }
 
-// Number i of those of four bytes each from `at` on.
-fn nth_i32(bytes: &[u8], at: usize, i: usize) -> i32
-    requires { 4 * i < 2 ^ 64 }
-    ensures { result ≡ i32s_at bytes.now at i }
-{
-    i32_at(bytes, skip(bytes, at, 4 * i))
-}
-
-// Fills out with the numbers of two bytes each from `at` on.
-pub fn load_i16s(bytes: &[u8], at: usize, out: &mut [i16])
-    ensures { out.new ≡ filled (i16s_at bytes.now at) (length out.old) out.old }
+// Fills out with the numbers from `at` on.
+pub fn load<T: Little>(bytes: &[u8], at: usize, out: &mut [T])
+    ensures { out.new ≡ filled (numbers_at T.value_at T.SIZE bytes.now at) (length out.old) out.old }
 {
     for i in 0..out.len() {
-        out[i] = nth_i16(bytes, at, i);
+        out[i] = nth(bytes, at, i);
     }
 }
 
-// Fills out with the numbers of four bytes each from `at` on.
-pub fn load_i32s(bytes: &[u8], at: usize, out: &mut [i32])
-    ensures { out.new ≡ filled (i32s_at bytes.now at) (length out.old) out.old }
-{
-    for i in 0..out.len() {
-        out[i] = nth_i32(bytes, at, i);
-    }
-}
-
-// Whether xs are the numbers of two bytes each from `at` on.
-pub fn same_i16s(bytes: &[u8], at: usize, xs: &[i16]) -> bool
-    ensures { result ≡ agree (i16s_at bytes.now at) xs.now (length xs.now) }
+// Whether xs are the numbers from `at` on.
+pub fn same<T: Little>(bytes: &[u8], at: usize, xs: &[T]) -> bool
+    ensures { result ≡ agree T.eq (numbers_at T.value_at T.SIZE bytes.now at) xs.now (length xs.now) }
 {
     for i in 0..xs.len() {
-        if xs[i] != nth_i16(bytes, at, i) {
-            return false;
-        }
-    }
-    true
-}
-
-// Whether xs are the numbers of four bytes each from `at` on.
-pub fn same_i32s(bytes: &[u8], at: usize, xs: &[i32]) -> bool
-    ensures { result ≡ agree (i32s_at bytes.now at) xs.now (length xs.now) }
-{
-    for i in 0..xs.len() {
-        if xs[i] != nth_i32(bytes, at, i) {
+        if xs[i] != nth(bytes, at, i) {
             return false;
         }
     }
@@ -182,15 +192,11 @@ pub fn settings_at(bytes: &[u8], at: usize) -> Settings
     }
 }
 
-// Whether the two are the same settings, number by number.
+// Whether the two are the same settings. The contract says what `==` of the derive compares: each of the five numbers.
 pub fn same_settings(a: Settings, b: Settings) -> bool
     ensures { result ≡ same_settings a b }
 {
-    a.rate == b.rate
-        && a.nb == b.nb
-        && a.complexity == b.complexity
-        && a.thres1 == b.thres1
-        && a.thres2 == b.thres2
+    a == b
 }
 
 // A count after one case more, which counts or does not.
@@ -221,6 +227,16 @@ impl Tally {
         }
     }
 
+    // The counts of both.
+    fn plus(self, other: Tally) -> Tally
+        ensures { result ≡ tally_plus self other }
+    {
+        Tally {
+            agreed: self.agreed.wrapping_add(other.agreed),
+            total: self.total.wrapping_add(other.total),
+        }
+    }
+
     // The line `name agreed of total`.
     pub fn print<W: Write>(self, output: &mut W, name: &[u8]) -> io::Result<()>
         ensures { OnOk result (Appends (W.contents output.old) (W.contents output.new) (tally_line name.now self)) }
@@ -232,55 +248,86 @@ impl Tally {
     }
 }
 
-// One record more of this kind: its places change, all others stay.
-pub fn count(agreed: &mut [u64], total: &mut [u64], kind: usize, agrees: bool)
-    requires { (kind < length agreed.old) × (kind < length total.old) }
-    ensures { (agreed.new ≡ counted_at agreed.old kind agrees) × (total.new ≡ counted_at total.old kind true) }
+// One record more of this kind: its tally changes, all others stay.
+pub fn count(tallies: &mut [Tally], kind: usize, agrees: bool)
+    requires { kind < length tallies.old }
+    ensures { tallies.new ≡ counted_at tallies.old kind agrees }
 {
-    agreed[kind] = counted(agreed[kind], agrees);
-    total[kind] = counted(total[kind], true);
-}
-
-// The sum of the counts, modulo 2 to the 64.
-fn sum_of(xs: &[u64]) -> u64
-    ensures { result ≡ count_sum xs.now (length xs.now) % 2 ^ 64 }
-{
-    let mut s: u64 = 0;
-    for i in 0..xs.len() {
-        s = s.wrapping_add(xs[i]);
-    }
-    s
+    tallies[kind] = tallies[kind].counted(agrees);
 }
 
 // What the line `all:` tells.
-pub fn totals(agreed: &[u64], total: &[u64]) -> Tally
-    ensures { result ≡ totals_of agreed.now total.now }
+pub fn totals(tallies: &[Tally]) -> Tally
+    ensures { result ≡ totals_of tallies.now }
 {
-    Tally {
-        agreed: sum_of(agreed),
-        total: sum_of(total),
-    }
-}
-
-// What the line of a kind tells.
-pub fn tally_of(agreed: &[u64], total: &[u64], kind: usize) -> Tally
-    requires { (kind < length agreed.now) × (kind < length total.now) }
-    ensures { (result.agreed ≡ slice_index agreed.now kind) × (result.total ≡ slice_index total.now kind) }
-{
-    Tally {
-        agreed: agreed[kind],
-        total: total[kind],
-    }
+    tallies
+        .iter()
+        .fold(Tally::none(), |sum, tally| sum.plus(*tally))
 }
 
 // A line for each kind, and one for all.
-pub fn report<W: Write>(output: &mut W, agreed: &[u64], total: &[u64]) -> io::Result<()>
-    requires { length agreed.now ≡ length total.now }
-    ensures { OnOk result (Appends (W.contents output.old) (W.contents output.new) (report_text agreed.now total.now)) }
+pub fn report<W: Write>(output: &mut W, tallies: &[Tally]) -> io::Result<()>
+    ensures { OnOk result (Appends (W.contents output.old) (W.contents output.new) (report_text tallies.now)) }
 {
-    for kind in 0..total.len() {
+    for kind in 0..tallies.len() {
         write!(output, "kind {kind}")?;
-        tally_of(agreed, total, kind).print(output, b":")?;
+        tallies[kind].print(output, b":")?;
     }
-    totals(agreed, total).print(output, b"all:")
+    totals(tallies).print(output, b"all:")
+}
+
+// Goes through a list whose cases stand one after another, and prints how many agree of those that `agrees` answers for. A case has at least one byte.
+pub fn replay<W: Write, S: Fn(&[u8]) -> usize, A: Fn(&[u8]) -> Option<bool>>(
+    output: &mut W,
+    name: &[u8],
+    list: &[u8],
+    size: S,
+    agrees: A,
+) -> io::Result<()>
+    requires sized { S.IsAlwaysCallable size }
+    requires answered { A.IsAlwaysCallable agrees }
+    ensures { OnOk result ((t : Tally) × Replayed (FnReturnsAt S.Fn size) (FnReturnsAt A.Fn agrees) (tally 0 0) list.now t
+        × Appends (W.contents output.old) (W.contents output.new) (tally_line name.now t)) }
+{
+    let mut tally = Tally::none();
+    let mut rest = list;
+    while !rest.is_empty() {
+        let (case, after) = rest.split_at(size(rest).max(1).min(rest.len()));
+        if let Some(agreed) = agrees(case) {
+            tally = tally.counted(agreed);
+        }
+        rest = after;
+    }
+    tally.print(output, name)
+}
+
+// The records of an input: what a head tells, and whether what stands after it agrees.
+pub trait Records<const HEAD: usize, const KINDS: usize> {
+    // The record's kind, where it is known.
+    fn kind(head: &[u8; HEAD]) -> Option<usize>
+        ensures { IfSome result (λ k. k < KINDS) };
+
+    // Reads the rest of the record and tells whether the call agrees.
+    fn agrees<R: Read>(input: &mut R, head: &[u8; HEAD]) -> io::Result<bool>;
+
+    ghost few: { (HEAD ≤ 65536) × (KINDS ≤ 65536) };
+}
+
+// Counts the records of an input, kind by kind, up to the first that is cut in its head or of an unknown kind, at most `most`.
+pub fn replay_input<T: Records<HEAD, KINDS>, const HEAD: usize, const KINDS: usize, R: Read>(
+    input: &mut R,
+    most: usize,
+) -> io::Result<[Tally; KINDS]> {
+    let mut tallies = [Tally::none(); KINDS];
+    for _ in 0..most {
+        let mut head = [0; HEAD];
+        if read_full(input, &mut head)? < HEAD {
+            break;
+        }
+        let Some(kind) = T::kind(&head) else {
+            break;
+        };
+        count(&mut tallies, kind, T::agrees(input, &head)?);
+    }
+    Ok(tallies)
 }

@@ -7,7 +7,7 @@ ghost use Rattle.std.specs.Prelude.{◌<◌, ◌≤◌};
 
 use cases_io::{LIST_BYTES, Tally, byte_at, read_full, skip, u16_at};
 use rooms::room;
-use silk_tables::rebuild::{Rebuilt, rebuilt_lag};
+use silk_tables::rebuild::rebuilt_lag;
 use silk_tables::{contours_in_use, greatest_index};
 use std::io;
 use std::io::Write;
@@ -21,7 +21,7 @@ struct LagSettings {
 }
 
 // The place in the list that comes next, and the count so far.
-#[derive(Drop)]
+#[derive(Clone, Copy)]
 struct Run {
     at: usize,
     tally: Tally,
@@ -36,25 +36,16 @@ fn is_of(bytes: &[u8], at: usize, s: LagSettings, index: usize, contour: usize) 
         && byte_at(bytes, skip(bytes, at, 5)) as usize == contour
 }
 
-// Whether the lag of subframe k is the one at `at`.
+// Whether the lag of subframe k is number k of those from `at` on.
 fn lag_agrees(bytes: &[u8], at: usize, s: LagSettings, index: i32, contour: i32, k: usize) -> bool {
-    let Rebuilt::Lag(lag) = rebuilt_lag(s.fs_khz, s.nb_subfr, s.complexity, index, contour, k)
-    else {
-        return false;
-    };
-    lag == u16_at(bytes, at) as i32
+    let place = skip(bytes, at, k.saturating_mul(2));
+    rebuilt_lag(s.fs_khz, s.nb_subfr, s.complexity, index, contour, k)
+        == Some(u16_at(bytes, place) as i32)
 }
 
 // Whether the lags of all subframes are those from `at` on.
 fn lags_agree(bytes: &[u8], at: usize, s: LagSettings, index: i32, contour: i32) -> bool {
-    let mut place = at;
-    for k in 0..s.nb_subfr {
-        if !lag_agrees(bytes, place, s, index, contour, k) {
-            return false;
-        }
-        place = skip(bytes, place, 2);
-    }
-    true
+    (0..s.nb_subfr).all(|k| lag_agrees(bytes, at, s, index, contour, k))
 }
 
 // One pair: its record, and the place after it.
@@ -104,35 +95,31 @@ fn all_complexities<W: Write>(
     at: usize,
     fs_khz: usize,
     nb_subfr: usize,
-    name: &[u8],
 ) -> io::Result<usize> {
     let mut now = Run {
-        at: at,
+        at,
         tally: Tally::none(),
     };
     for complexity in 0..3 {
-        now = all_indices(
-            bytes,
-            now,
-            LagSettings {
-                fs_khz: fs_khz,
-                nb_subfr: nb_subfr,
-                complexity: complexity,
-            },
-        );
+        let s = LagSettings {
+            fs_khz,
+            nb_subfr,
+            complexity,
+        };
+        now = all_indices(bytes, now, s);
     }
-    let end = now.at;
-    now.tally.print(output, name)?;
-    Ok(end)
+    write!(output, "{fs_khz} kHz, {nb_subfr} subframes:")?;
+    now.tally.print(output, b"")?;
+    Ok(now.at)
 }
 
 fn replay<W: Write>(output: &mut W, bytes: &[u8]) -> io::Result<()> {
-    let at = all_complexities(output, bytes, 0, 8, 2, b"8 kHz, 2 subframes:")?;
-    let at = all_complexities(output, bytes, at, 8, 4, b"8 kHz, 4 subframes:")?;
-    let at = all_complexities(output, bytes, at, 12, 2, b"12 kHz, 2 subframes:")?;
-    let at = all_complexities(output, bytes, at, 12, 4, b"12 kHz, 4 subframes:")?;
-    let at = all_complexities(output, bytes, at, 16, 2, b"16 kHz, 2 subframes:")?;
-    let at = all_complexities(output, bytes, at, 16, 4, b"16 kHz, 4 subframes:")?;
+    let mut at = 0;
+    for fs_khz in [8, 12, 16] {
+        for nb_subfr in [2, 4] {
+            at = all_complexities(output, bytes, at, fs_khz, nb_subfr)?;
+        }
+    }
     Tally::none()
         .counted(at == bytes.len())
         .print(output, b"end of the list:")

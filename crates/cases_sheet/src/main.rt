@@ -7,17 +7,19 @@
 #![tactic(auto)]
 
 ghost use Rattle.std.specs.Prelude.{◌≤◌, length};
+ghost use Rattle.std.proofs.Common.{rules};
 ghost use Rattle.cases_sheet.specs.Rooms.{table_room, page_room, body_room};
 
 use cases_io::{
-    byte_at, count, i32_at, read_full, report, same_settings, settings_at, skip, u16_at, u32_at,
-    usize_at,
+    Records, byte_at, i32_at, read_full, replay_input, report, same_settings, settings_at, skip,
+    u16_at, u32_at, usize_at,
 };
-use pitch_settings::Settings;
-use pitch_sheet::{Got, Wrote, read_sheet, write_sheet};
+use pitch_settings::{Held, Settings};
+use pitch_sheet::{read_sheet, write_sheet};
 use pitch_table::{MOST_FRAMES, ROW_SIZE};
+use refusals::Refusal;
 use std::io;
-use std::io::{Read, Write};
+use std::io::Read;
 
 // The frames, the numbers of a table, the bytes of a page, and the bytes after a record's head for which there is room.
 const FRAMES_ROOM: usize = MOST_FRAMES + 4;
@@ -69,20 +71,20 @@ fn number_at(body: &[u8], numbers: usize, i: usize) -> i32
 fn load_table(body: &[u8], numbers: usize, table: &mut [i32])
     requires { numbers ≤ table_room }
 {
-    for i in 0..table.len() {
-        table[i] = number_at(body, numbers, i);
+    for (i, number) in table.iter_mut().enumerate() {
+        *number = number_at(body, numbers, i);
     }
 }
 
 fn mark_table(table: &mut [i32]) {
-    for i in 0..table.len() {
-        table[i] = table_before(i);
+    for (i, number) in table.iter_mut().enumerate() {
+        *number = table_before(i);
     }
 }
 
 fn mark_page(page: &mut [u8]) {
-    for i in 0..page.len() {
-        page[i] = page_before(i);
+    for (i, byte) in page.iter_mut().enumerate() {
+        *byte = page_before(i);
     }
 }
 
@@ -110,37 +112,32 @@ fn page_after(body: &[u8], at: usize, new: usize, i: usize) -> u8 {
 fn table_agrees(body: &[u8], numbers: usize, new: usize, table: &[i32]) -> bool
     requires { numbers ≤ table_room }
 {
-    for i in 0..table.len() {
-        if table[i] != table_after(body, numbers, new, i) {
-            return false;
-        }
-    }
     new <= table.len()
+        && table.iter().enumerate().all(|(i, number)| *number == table_after(body, numbers, new, i))
 }
 
 // Whether the first `new` bytes are the record's from `at` on, and the others as before.
 fn page_agrees(body: &[u8], at: usize, new: usize, page: &[u8]) -> bool {
-    for i in 0..page.len() {
-        if page[i] != page_after(body, at, new, i) {
-            return false;
-        }
-    }
     new <= page.len()
+        && page
+            .iter()
+            .enumerate()
+            .all(|(i, byte)| *byte == page_after(body, at, new, i))
 }
 
-fn wrote_agrees(c: Case, answer: Wrote) -> bool {
+fn wrote_agrees(c: Case, answer: Result<usize, Refusal>) -> bool {
     match answer {
-        Wrote::Written(bytes) => c.number == 0 && bytes == c.bytes,
-        Wrote::Refused(number) => c.number != 0 && number == c.number && c.bytes == 0,
+        Ok(bytes) => c.number == 0 && bytes == c.bytes,
+        Err(refusal) => refusal.number() == c.number && c.bytes == 0,
     }
 }
 
-fn got_agrees(c: Case, answer: Got) -> bool {
+fn got_agrees(c: Case, answer: Result<(Held, usize), Refusal>) -> bool {
     match answer {
-        Got::Read(settings, frames) => c.number == 0
+        Ok((held, frames)) => c.number == 0
             && frames == c.frames
-            && same_settings(settings, c.settings),
-        Got::Refused(number) => c.number != 0 && number == c.number && c.frames == 0,
+            && same_settings(held.settings, c.settings),
+        Err(refusal) => refusal.number() == c.number && c.frames == 0,
     }
 }
 
@@ -233,29 +230,25 @@ fn record_agrees<R: Read>(input: &mut R, c: Case) -> io::Result<bool> {
     Ok(case_agrees(&body, c))
 }
 
-// Counts the records up to the first that is cut in its head or of an unknown kind, at most 1,000,000.
-fn replay<R: Read>(input: &mut R, agreed: &mut [u64; 20], total: &mut [u64; 20]) -> io::Result<()> {
-    for _ in 0..1000000usize {
-        let mut head = [0u8; 60];
-        let got = read_full(input, &mut head)?;
-        let kind = byte_at(&head, 0) as usize;
-        if got < 60 || kind >= 20 {
-            break;
-        }
-        let same = record_agrees(input, case_of(&head))?;
-        count(agreed, total, kind, same);
-    }
-    Ok(())
-}
+struct Sheets;
 
-// An array's length is known by its type, whatever was counted in it.
-fn report_all<W: Write>(output: &mut W, agreed: &[u64; 20], total: &[u64; 20]) -> io::Result<()> {
-    report(output, agreed, total)
+impl Records<60, 20> for Sheets {
+    fn kind(head: &[u8; 60]) -> Option<usize> {
+        let kind = byte_at(head, 0) as usize;
+        if kind >= 20 {
+            return None;
+        }
+        Some(kind)
+    }
+
+    fn agrees<R: Read>(input: &mut R, head: &[u8; 60]) -> io::Result<bool> {
+        record_agrees(input, case_of(head))
+    }
+
+    ghost few = { Prim.search rules };
 }
 
 fn main(rt: HostRuntime) -> io::Result<()> {
-    let mut agreed = [0u64; 20];
-    let mut total = [0u64; 20];
-    replay(&mut rt.stdin(), &mut agreed, &mut total)?;
-    report_all(&mut rt.stdout(), &agreed, &total)
+    let tallies = replay_input::<Sheets, 60, 20, _>(&mut rt.stdin(), 1000000)?;
+    report(&mut rt.stdout(), &tallies)
 }

@@ -6,21 +6,21 @@
 
 ghost use Rattle.std.specs.Prelude.{◌≡◌, ◌≤◌, ◌<◌, length};
 
-use cases_io::{LIST_BYTES, Tally, i32_at, load_i16s, read_full, same_i32s, skip, u16_at};
+use cases_io::{LIST_BYTES, i32_at, load, read_full, replay, same, u16_at};
 use rooms::room;
 use silk_sigproc::{silk_inner_prod_aligned, silk_pitch_xcorr, silk_sum_sqr_shift};
 use std::io;
 use std::io::Write;
 
-// The number of 4 bytes that is `by` bytes after `at`.
-fn number(bytes: &[u8], at: usize, by: usize) -> usize
+// The number of 4 bytes at `at`.
+fn number(case: &[u8], at: usize) -> usize
     ensures { result < 65536 }
 {
-    u16_at(bytes, skip(bytes, at, by)) as usize
+    u16_at(case, at) as usize
 }
 
-fn sum_sqr_shift_agrees(bytes: &[u8], at: usize) -> bool {
-    let n = number(bytes, at, 4);
+fn sum_sqr_shift_agrees(case: &[u8]) -> bool {
+    let n = number(case, 4);
     if n == 0 {
         return false;
     }
@@ -28,39 +28,39 @@ fn sum_sqr_shift_agrees(bytes: &[u8], at: usize) -> bool {
         return false;
     }
     let mut x = [0i16; 640];
-    load_i16s(bytes, skip(bytes, at, 8), &mut x);
+    load(case, 8, &mut x);
     let sum = silk_sum_sqr_shift(&x, n);
-    let energy = i32_at(bytes, skip(bytes, at, 8 + 2 * n));
-    let shift = i32_at(bytes, skip(bytes, at, 12 + 2 * n));
+    let energy = i32_at(case, 8 + 2 * n);
+    let shift = i32_at(case, 12 + 2 * n);
     sum.energy as i32 == energy && sum.shift as i32 == shift
 }
 
-fn inner_prod_agrees(bytes: &[u8], at: usize) -> bool {
-    let n = number(bytes, at, 4);
+fn inner_prod_agrees(case: &[u8]) -> bool {
+    let n = number(case, 4);
     if n > 320 {
         return false;
     }
     let mut x = [0i16; 320];
     let mut y = [0i16; 320];
-    load_i16s(bytes, skip(bytes, at, 8), &mut x);
-    load_i16s(bytes, skip(bytes, at, 8 + 2 * n), &mut y);
-    silk_inner_prod_aligned(&x, &y, n) == i32_at(bytes, skip(bytes, at, 8 + 4 * n))
+    load(case, 8, &mut x);
+    load(case, 8 + 2 * n, &mut y);
+    silk_inner_prod_aligned(&x, &y, n) == i32_at(case, 8 + 4 * n)
 }
 
 // The n samples from `at` on, and zeros after them.
-fn padded(bytes: &[u8], at: usize, n: usize) -> [i16; 210]
+fn padded(case: &[u8], at: usize, n: usize) -> [i16; 210]
     requires { n ≤ 210 }
     ensures { 210 ≡ length result }
 {
     let mut y = [0i16; 210];
-    load_i16s(bytes, at, &mut y[..n]);
+    load(case, at, &mut y[..n]);
     y
 }
 
-fn pitch_xcorr_agrees(bytes: &[u8], at: usize) -> bool {
-    let n = number(bytes, at, 4);
-    let lags = number(bytes, at, 8);
-    let y_len = number(bytes, at, 12);
+fn pitch_xcorr_agrees(case: &[u8]) -> bool {
+    let n = number(case, 4);
+    let lags = number(case, 8);
+    let y_len = number(case, 12);
     if n > 80 {
         return false;
     }
@@ -72,65 +72,50 @@ fn pitch_xcorr_agrees(bytes: &[u8], at: usize) -> bool {
     }
     let mut x = [0i16; 80];
     let mut sums = [0i32; 131];
-    let samples = skip(bytes, at, 16 + 2 * n);
-    load_i16s(bytes, skip(bytes, at, 16), &mut x);
-    let y = padded(bytes, samples, y_len);
+    let samples = 16 + 2 * n;
+    load(case, 16, &mut x);
+    let y = padded(case, samples, y_len);
     silk_pitch_xcorr(&x, &y, &mut sums, n, lags);
-    same_i32s(bytes, skip(bytes, samples, 2 * y_len), &sums[..lags])
+    same(case, samples + 2 * y_len, &sums[..lags])
 }
 
-// The group of the case at `at`: its kind, or 3 where y is too short for a lag.
-fn group_of(bytes: &[u8], at: usize) -> usize {
-    let kind = number(bytes, at, 0);
-    if kind != 2 {
-        return kind;
-    }
-    let reach = number(bytes, at, 4) + number(bytes, at, 8);
-    if reach > number(bytes, at, 12) + 1 {
+// The group of a case: its kind, or 3 where y is too short for a lag.
+fn group_of(case: &[u8]) -> usize {
+    let kind = number(case, 0);
+    if kind == 2 && number(case, 4) + number(case, 8) > number(case, 12) + 1 {
         3
     } else {
-        2
+        kind
     }
 }
 
-fn agrees(bytes: &[u8], at: usize, group: usize) -> bool {
-    if group == 0 {
-        return sum_sqr_shift_agrees(bytes, at);
+// The bytes of a case.
+fn size(case: &[u8]) -> usize {
+    let n = number(case, 4);
+    match number(case, 0) {
+        0 => 16 + 2 * n,
+        1 => 12 + 4 * n,
+        _ => 16 + 2 * n + 4 * number(case, 8) + 2 * number(case, 12),
     }
-    if group == 1 {
-        return inner_prod_agrees(bytes, at);
-    }
-    pitch_xcorr_agrees(bytes, at)
-}
-
-// The place after the case at `at`.
-fn next(bytes: &[u8], at: usize) -> usize
-    requires { at < length bytes.now }
-    ensures { (at < result) × (result ≤ length bytes.now) }
-{
-    let kind = number(bytes, at, 0);
-    let n = number(bytes, at, 4);
-    if kind == 0 {
-        return skip(bytes, at, 16 + 2 * n);
-    }
-    if kind == 1 {
-        return skip(bytes, at, 12 + 4 * n);
-    }
-    let rest = 4 * number(bytes, at, 8) + 2 * number(bytes, at, 12);
-    skip(bytes, at, 16 + 2 * n + rest)
 }
 
 // Replays the cases of one group.
-fn replay<W: Write>(output: &mut W, bytes: &[u8], group: usize, name: &[u8]) -> io::Result<()> {
-    let mut tally = Tally::none();
-    let mut at = 0;
-    while at < bytes.len() {
-        if group_of(bytes, at) == group {
-            tally = tally.counted(agrees(bytes, at, group));
+fn replay_group<W: Write, A: Fn(&[u8]) -> bool>(
+    output: &mut W,
+    list: &[u8],
+    group: usize,
+    name: &[u8],
+    agrees: A,
+) -> io::Result<()>
+    requires { A.IsAlwaysCallable agrees }
+{
+    replay(output, name, list, size, |case| {
+        if group_of(case) == group {
+            Some(agrees(case))
+        } else {
+            None
         }
-        at = next(bytes, at);
-    }
-    tally.print(output, name)
+    })
 }
 
 fn main(rt: HostRuntime) -> io::Result<()> {
@@ -138,13 +123,27 @@ fn main(rt: HostRuntime) -> io::Result<()> {
     let n = read_full(&mut rt.stdin(), &mut bytes)?;
     let list = &bytes[..n];
     let mut output = rt.stdout();
-    replay(&mut output, list, 0, b"silk_sum_sqr_shift")?;
-    replay(&mut output, list, 1, b"silk_inner_prod_aligned")?;
-    replay(&mut output, list, 2, b"silk_pitch_xcorr")?;
-    replay(
+    let padded = b"silk_pitch_xcorr, y followed by zeros";
+    replay_group(
         &mut output,
         list,
-        3,
-        b"silk_pitch_xcorr, y followed by zeros",
-    )
+        0,
+        b"silk_sum_sqr_shift",
+        sum_sqr_shift_agrees,
+    )?;
+    replay_group(
+        &mut output,
+        list,
+        1,
+        b"silk_inner_prod_aligned",
+        inner_prod_agrees,
+    )?;
+    replay_group(
+        &mut output,
+        list,
+        2,
+        b"silk_pitch_xcorr",
+        pitch_xcorr_agrees,
+    )?;
+    replay_group(&mut output, list, 3, padded, pitch_xcorr_agrees)
 }

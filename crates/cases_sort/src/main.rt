@@ -2,28 +2,23 @@
 // A case is L and K (4 bytes each), L values (2 bytes each), then the K indices (4 bytes each) and the L values (2 bytes each) that the source leaves; all little-endian.
 #![tactic(auto)]
 
-ghost use Rattle.std.specs.Prelude.{◌≡◌, ◌+◌, ◌*◌, ◌<◌, min, length};
+ghost use Rattle.std.specs.Prelude.{◌≡◌, ◌+◌, ◌*◌};
+ghost use Rattle.cases_io.specs.Little.{u32_at};
 
-use cases_io::{LIST_BYTES, Tally, load_i16s, read_full, same_i16s, skip, u32_at};
+use cases_io::{LIST_BYTES, load, read_full, replay, same, skip, u32_at};
 use rooms::room;
 use silk_sort::silk_insertion_sort_decreasing_int16;
 use std::io;
-use std::io::Write;
 
 // Whether idx are the numbers of 4 bytes each from `at` on.
-fn same_indices(bytes: &[u8], at: usize, idx: &[usize]) -> bool {
-    let mut place = at;
-    for i in 0..idx.len() {
-        if idx[i] != u32_at(bytes, place) {
-            return false;
-        }
-        place = skip(bytes, place, 4);
-    }
-    true
+fn same_indices(case: &[u8], at: usize, idx: &[usize]) -> bool {
+    idx.iter().enumerate().all(|(i, x)| *x == u32_at(case, skip(case, at, i.saturating_mul(4))))
 }
 
-// Whether the sort answers the case at `at`, of l values and k places, as the source does. No case has more than 72 values.
-fn agrees(bytes: &[u8], at: usize, l: usize, k: usize) -> bool {
+// Whether the sort answers the case, of l values and k places, as the source does. No case has more than 72 values.
+fn agrees(case: &[u8]) -> bool {
+    let l = u32_at(case, 0);
+    let k = u32_at(case, 4);
     if k == 0 {
         return false;
     }
@@ -33,38 +28,27 @@ fn agrees(bytes: &[u8], at: usize, l: usize, k: usize) -> bool {
     if l > 72 {
         return false;
     }
-    let values = skip(bytes, at, 8);
-    let indices = skip(bytes, values, 2 * l);
-    let after = skip(bytes, indices, 4 * k);
+    let indices = 8 + 2 * l;
+    let after = indices + 4 * k;
     let mut a = [0i16; 72];
     let mut idx = [0usize; 72];
-    load_i16s(bytes, values, &mut a);
+    load(case, 8, &mut a);
     silk_insertion_sort_decreasing_int16(&mut a, &mut idx, l, k);
-    same_indices(bytes, indices, &idx[..k]) && same_i16s(bytes, after, &a[..l])
+    same_indices(case, indices, &idx[..k]) && same(case, after, &a[..l])
 }
 
-// The place after the case at `at`, of l values and k places.
-fn next(bytes: &[u8], at: usize, l: usize, k: usize) -> usize
-    requires { (l < 4294967296) × (k < 4294967296) }
-    ensures { result ≡ min (at + (8 + 4 * l + 4 * k)) (length bytes.now) }
+// The bytes of a case of l values and k places.
+fn size(case: &[u8]) -> usize
+    ensures { result ≡ 8 + 4 * u32_at case.now 0 + 4 * u32_at case.now 4 }
 {
-    skip(bytes, at, 8 + 4 * l + 4 * k)
-}
-
-fn replay<W: Write>(output: &mut W, bytes: &[u8]) -> io::Result<()> {
-    let mut tally = Tally::none();
-    let mut at = 0;
-    while at < bytes.len() {
-        let l = u32_at(bytes, at);
-        let k = u32_at(bytes, skip(bytes, at, 4));
-        tally = tally.counted(agrees(bytes, at, l, k));
-        at = next(bytes, at, l, k);
-    }
-    tally.print(output, b"silk_insertion_sort_decreasing_int16")
+    8 + 4 * u32_at(case, 0) + 4 * u32_at(case, 4)
 }
 
 fn main(rt: HostRuntime) -> io::Result<()> {
     let mut bytes = room::<u8, LIST_BYTES>(0);
     let n = read_full(&mut rt.stdin(), &mut bytes)?;
-    replay(&mut rt.stdout(), &bytes[..n])
+    let name = b"silk_insertion_sort_decreasing_int16";
+    replay(&mut rt.stdout(), name, &bytes[..n], size, |case| {
+        Some(agrees(case))
+    })
 }

@@ -3,63 +3,67 @@
 // threshold (0 where refused).
 #![tactic(auto)]
 
-ghost use Rattle.std.specs.Prelude.{true, [], ◌∷◌, ◌≡◌, ◌+◌};
+ghost use Rattle.std.specs.Prelude.{true, [], ◌∷◌, ◌≡◌};
 ghost use Rattle.answers.specs.Answer.{answer_numbers};
+ghost use Rattle.refusals.specs.Refusals.{told};
 ghost use Rattle.cases_io.specs.Little.{u32_at, i32_at};
 ghost use Rattle.speech_threshold.specs.Threshold.{threshold_call, threshold_answer_numbers};
 
-use cases_io::{LIST_BYTES, Tally, i32_at, read_full, skip, u32_at};
+use cases_io::{LIST_BYTES, i32_at, read_full, replay, u32_at};
+use refusals::Refusal;
 use rooms::room;
-use speech_threshold::{ThresholdAnswer, speech_threshold};
+use speech_threshold::Speech;
 use std::io;
 use std::io::Write;
 
 // Whether the answer is this number, with this threshold where the number is 0.
-fn says(answer: ThresholdAnswer, number: usize, threshold: i32) -> bool
-    ensures { result ≡ true → threshold_answer_numbers answer ≡ answer_numbers number (threshold ∷ []) }
+fn says(answer: Result<i32, Refusal>, number: usize, threshold: i32) -> bool
+    ensures { result ≡ true → threshold_answer_numbers (told answer) ≡ answer_numbers number (threshold ∷ []) }
 {
     match answer {
-        ThresholdAnswer::Threshold(value) => number == 0 && value == threshold,
-        ThresholdAnswer::Refused(no) => number != 0 && no == number,
+        Ok(value) => number == 0 && value == threshold,
+        Err(refusal) => number != 0 && refusal.number() == number,
     }
 }
 
-// Whether the call answers the case at `at` as the list does.
-fn agrees(bytes: &[u8], at: usize) -> bool
-    ensures { result ≡ true → threshold_answer_numbers (threshold_call (i32_at bytes.now (at + 4)) (i32_at bytes.now (at + 8)) (i32_at bytes.now (at + 12)) (i32_at bytes.now (at + 16)))
-        ≡ answer_numbers (u32_at bytes.now (at + 20)) (i32_at bytes.now (at + 24) ∷ []) }
+// Whether the call answers the case as the list does.
+fn agrees(case: &[u8]) -> bool
+    ensures { result ≡ true → threshold_answer_numbers (threshold_call (i32_at case.now 4) (i32_at case.now 8) (i32_at case.now 12) (i32_at case.now 16))
+        ≡ answer_numbers (u32_at case.now 20) (i32_at case.now 24 ∷ []) }
 {
-    let order = i32_at(bytes, skip(bytes, at, 4));
-    let activity = i32_at(bytes, skip(bytes, at, 8));
-    let signal_type = i32_at(bytes, skip(bytes, at, 12));
-    let tilt = i32_at(bytes, skip(bytes, at, 16));
-    let number = u32_at(bytes, skip(bytes, at, 20));
-    let threshold = i32_at(bytes, skip(bytes, at, 24));
-    says(
-        speech_threshold(order, activity, signal_type, tilt),
-        number,
-        threshold,
-    )
+    let signal_type = i32_at(case, 12);
+    let speech = Speech {
+        order: i32_at(case, 4),
+        activity: i32_at(case, 8),
+        tilt: i32_at(case, 16),
+    };
+    let number = u32_at(case, 20);
+    let threshold = i32_at(case, 24);
+    says(speech.threshold(signal_type), number, threshold)
 }
 
 // Counts the cases of one kind and prints the line.
-fn replay<W: Write>(output: &mut W, bytes: &[u8], kind: i32, name: &[u8]) -> io::Result<()> {
-    let mut tally = Tally::none();
-    let mut at = 0;
-    while at < bytes.len() {
-        if i32_at(bytes, at) == kind {
-            tally = tally.counted(agrees(bytes, at));
-        }
-        at = skip(bytes, at, 28);
-    }
-    tally.print(output, name)
+fn replay_kind<W: Write>(output: &mut W, list: &[u8], kind: i32, name: &[u8]) -> io::Result<()> {
+    replay(
+        output,
+        name,
+        list,
+        |_| 28,
+        |case| {
+            if i32_at(case, 0) == kind {
+                Some(agrees(case))
+            } else {
+                None
+            }
+        },
+    )
 }
 
 fn main(rt: HostRuntime) -> io::Result<()> {
     let mut bytes = room::<u8, LIST_BYTES>(0);
     let n = read_full(&mut rt.stdin(), &mut bytes)?;
     let mut output = rt.stdout();
-    replay(&mut output, &bytes[..n], 0, b"in range:")?;
-    replay(&mut output, &bytes[..n], 1, b"out of range:")?;
-    replay(&mut output, &bytes[..n], 2, b"random:")
+    replay_kind(&mut output, &bytes[..n], 0, b"in range:")?;
+    replay_kind(&mut output, &bytes[..n], 1, b"out of range:")?;
+    replay_kind(&mut output, &bytes[..n], 2, b"random:")
 }

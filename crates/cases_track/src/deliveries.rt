@@ -5,20 +5,20 @@
 // whether the second threshold is fixed (0) or found from the speech (1), its order, activity and tilt, the previous type, and the type at the end (4 each);
 // the first of the state's places for samples, and the samples (2 each); the deliveries: length (4), number (1), frames done and samples held then (8 each);
 // the finished rows (8 numbers of 4); the first of the places at the end (2 each).
-ghost use Rattle.std.specs.Prelude.{◌≡◌, ◌<◌, ◌≤◌, length};
+ghost use Rattle.std.specs.Prelude.{◌≡◌, length};
 ghost use Rattle.pitch_recording.specs.Recording.{recording_samples};
 
-use crate::least;
 use cases_io::{
-    byte_at, i32_at, load_i16s, same_i16s, same_settings, settings_at, skip, u32_at, usize_at,
+    byte_at, i32_at, load, nth, same, same_settings, settings_at, skip, u32_at, usize_at,
 };
 use pitch_recording::RECORDING_SAMPLES;
 use pitch_settings::LONGEST_FRAME;
 use pitch_table::{MOST_FRAMES, ROW_SIZE};
 use pitch_track::Track;
+use refusals::Refusal;
 use rooms::room;
-use track_paper::{Prev, TrackAnswer};
-use track_settings::{SecondThreshold, Speech, TrackSettings, stored_settings};
+use track_paper::Prev;
+use track_settings::{SecondThreshold, Speech, TrackSettings};
 use zint::wrapping_sub_i32;
 
 // What the places of a state hold that are not listed.
@@ -32,13 +32,6 @@ struct Lists {
     rows: usize,
     places: usize,
     end: usize,
-}
-
-// Whether each delivery was answered as told, and the state that they left.
-#[derive(Drop)]
-struct Chain {
-    same: bool,
-    track: Track,
 }
 
 fn lists_of(body: &[u8]) -> Lists {
@@ -69,21 +62,17 @@ fn second_of(body: &[u8]) -> SecondThreshold {
 }
 
 fn settings_of(body: &[u8]) -> TrackSettings {
-    let s = settings_at(body, 2);
     TrackSettings {
-        rate: s.rate,
-        nb: s.nb,
-        complexity: s.complexity,
-        thres1: s.thres1,
         thres2: second_of(body),
+        ..TrackSettings::from(settings_at(body, 2))
     }
 }
 
 // The state that the body hands in.
 fn handed_in(body: &[u8]) -> Track {
     let mut held = [UNLISTED; LONGEST_FRAME];
-    let n = least(u32_at(body, 62), LONGEST_FRAME);
-    load_i16s(body, 114, &mut held[..n]);
+    let n = u32_at(body, 62).min(LONGEST_FRAME);
+    load(body, 114, &mut held[..n]);
     let settings = settings_of(body);
     let prev = Prev {
         lag: i32_at(body, 50),
@@ -103,15 +92,14 @@ fn first_track(body: &[u8]) -> Track {
     if byte_at(body, 0) == 0 {
         return handed_in(body);
     }
-    let started = Track::start(settings_of(body));
-    started.track
+    Track::start(settings_of(body)).track
 }
 
 // Whether an answer has the number told, and the frames where it is no refusal.
-fn answer_agrees(a: TrackAnswer, number: usize, frames: usize) -> bool {
-    match a {
-        TrackAnswer::Accepted(done) => number == 0 && done == frames,
-        TrackAnswer::Refused(no) => number != 0 && no == number,
+fn answer_agrees(answer: Result<usize, Refusal>, number: usize, frames: usize) -> bool {
+    match answer {
+        Ok(done) => number == 0 && done == frames,
+        Err(refusal) => refusal.number() == number,
     }
 }
 
@@ -121,82 +109,68 @@ fn start_agrees(body: &[u8]) -> bool {
         return number == 0;
     }
     let started = Track::start(settings_of(body));
-    let answer = started.answer;
-    answer_agrees(answer, number, 0)
+    answer_agrees(started.answer, number, 0)
 }
 
 // Whether a delivery is answered as told at `at`, with these frames done and samples held after it.
-fn delivery_agrees(body: &[u8], at: usize, a: TrackAnswer, frames: usize, count: usize) -> bool {
+fn delivery_agrees(
+    body: &[u8],
+    at: usize,
+    answer: Result<usize, Refusal>,
+    frames: usize,
+    count: usize,
+) -> bool {
     let number = byte_at(body, skip(body, at, 4)) as usize;
     frames == usize_at(body, skip(body, at, 5))
         && count == usize_at(body, skip(body, at, 13))
-        && answer_agrees(a, number, frames)
+        && answer_agrees(answer, number, frames)
 }
 
-// Delivers the samples part by part, up to the first answer that is another than the one told.
-fn deliver_all(body: &[u8], from: usize, samples: &[i16], table: &mut [i32]) -> Chain {
-    let deliveries = u32_at(body, 70);
+// Delivers the samples part by part. The state that they leave, or none where an answer is another than the one told.
+fn deliver_all(body: &[u8], from: usize, samples: &[i16], table: &mut [i32]) -> Option<Track> {
     let mut track = first_track(body);
     let mut at = 0;
-    let mut i = 0;
-    while i < deliveries {
+    for i in 0..u32_at(body, 70) {
         let told = skip(body, from, 21 * i);
-        let end = at + least(u32_at(body, told), samples.len() - at);
+        let end = at + u32_at(body, told).min(samples.len() - at);
         let part = &samples[at..end];
-        let d = track.deliver(part, table);
-        track = d.track;
-        let a = d.answer;
-        if !delivery_agrees(body, told, a, track.frames, track.count) {
-            return Chain { same: false, track };
+        let delivered = track.deliver(part, table);
+        track = delivered.track;
+        if !delivery_agrees(body, told, delivered.answer, track.frames, track.count) {
+            return None;
         }
         at = end;
-        i += 1;
     }
-    Chain { same: true, track }
+    Some(track)
 }
 
 // Whether the places for samples are as told from `at` on, as many as are listed.
 fn places_agree(body: &[u8], at: usize, t: Track) -> bool {
     let held = t.held;
-    let n = least(u32_at(body, 78), LONGEST_FRAME);
-    same_i16s(body, at, &held[..n])
-}
-
-// Whether a second threshold is as told.
-fn second_agrees(body: &[u8], t: SecondThreshold) -> bool {
-    match t {
-        SecondThreshold::Fixed(thres2) => i32_at(body, 90) == 0 && thres2 == i32_at(body, 30),
-        SecondThreshold::FromSpeech(m) => {
-            i32_at(body, 90) == 1
-                && m.order == i32_at(body, 94)
-                && m.activity == i32_at(body, 98)
-                && m.tilt == i32_at(body, 102)
-        }
-    }
+    let n = u32_at(body, 78).min(LONGEST_FRAME);
+    same(body, at, &held[..n])
 }
 
 // Whether the settings are as told; where the threshold is found from the speech, 0 is told for the stored one.
 fn settings_agree(body: &[u8], k: TrackSettings) -> bool {
-    let t = k.thres2;
-    same_settings(stored_settings(k), settings_at(body, 2)) && second_agrees(body, t)
+    matches!(i32_at(body, 90), 0 | 1)
+        && k.thres2 == second_of(body)
+        && same_settings(k.stored(), settings_at(body, 2))
 }
 
 // Whether the state at the end is as told, its places from `at` on.
 fn end_agrees(body: &[u8], at: usize, t: Track) -> bool {
-    let k = t.settings;
-    let prev = t.prev;
-    prev.lag == i32_at(body, 82)
-        && prev.correlation == i32_at(body, 86)
-        && prev.signal == i32_at(body, 110)
-        && settings_agree(body, k)
-        && places_agree(body, at, t)
+    let prev = Prev {
+        lag: i32_at(body, 82),
+        correlation: i32_at(body, 86),
+        signal: i32_at(body, 110),
+    };
+    t.prev == prev && settings_agree(body, t.settings) && places_agree(body, at, t)
 }
 
 // What number i of the table is before any row is written: no row has such a number, and no two are alike.
-fn blank(i: usize) -> i32
-    requires { i < 32800 }
-{
-    wrapping_sub_i32(-1000000, i as i32)
+fn blank(i: usize) -> i32 {
+    wrapping_sub_i32(-1000000, (i % 32800) as i32)
 }
 
 // A table of 4,096 rows and a few numbers more.
@@ -204,33 +178,24 @@ fn blank_table() -> [i32; 32800]
     ensures { 32800 ≡ length result }
 {
     let mut table = [0; 32800];
-    for i in 0..32800usize {
-        table[i] = blank(i);
+    for (i, number) in table.iter_mut().enumerate() {
+        *number = blank(i);
     }
     table
 }
 
 // Number i of the table at the end: that of a finished row, where it is from `first` to `end`, or as it was.
-fn number_told(body: &[u8], rows: usize, first: usize, end: usize, i: usize) -> i32
-    requires { i < 32800 }
-{
+fn number_told(body: &[u8], rows: usize, first: usize, end: usize, i: usize) -> i32 {
     if i < first || i >= end {
         return blank(i);
     }
-    i32_at(body, skip(body, rows, 4 * (i - first)))
+    nth(body, rows, i - first)
 }
 
-fn table_agrees(body: &[u8], rows: usize, table: &[i32]) -> bool
-    requires { 32800 ≡ length table.now }
-{
-    let first = ROW_SIZE * least(usize_at(body, 34), MOST_FRAMES);
+fn table_agrees(body: &[u8], rows: usize, table: &[i32]) -> bool {
+    let first = ROW_SIZE * usize_at(body, 34).min(MOST_FRAMES);
     let end = first + ROW_SIZE * u32_at(body, 74);
-    for i in 0..table.len() {
-        if table[i] != number_told(body, rows, first, end, i) {
-            return false;
-        }
-    }
-    true
+    table.iter().enumerate().all(|(i, number)| *number == number_told(body, rows, first, end, i))
 }
 
 // The samples that are delivered: those listed from `at` on, and then zeros.
@@ -238,21 +203,21 @@ fn samples_of(body: &[u8], at: usize) -> [i16; RECORDING_SAMPLES]
     ensures { recording_samples ≡ length result }
 {
     let mut samples = room::<i16, RECORDING_SAMPLES>(0);
-    let n = least(u32_at(body, 66), RECORDING_SAMPLES);
-    load_i16s(body, at, &mut samples[..n]);
+    let n = u32_at(body, 66).min(RECORDING_SAMPLES);
+    load(body, at, &mut samples[..n]);
     samples
 }
 
 // Whether the deliveries are answered, and leave state and table, as the body tells.
 pub fn agrees(body: &[u8], size: usize) -> bool {
-    let numbers = least(u32_at(body, 58), 32800);
+    let numbers = u32_at(body, 58).min(32800);
     let p = lists_of(body);
     let samples = samples_of(body, p.samples);
     let mut table = blank_table();
-    let chain = deliver_all(body, p.deliveries, &samples, &mut table[..numbers]);
-    let same = chain.same;
-    let track = chain.track;
-    same && p.end == size
+    let Some(track) = deliver_all(body, p.deliveries, &samples, &mut table[..numbers]) else {
+        return false;
+    };
+    p.end == size
         && start_agrees(body)
         && end_agrees(body, p.places, track)
         && table_agrees(body, p.rows, &table)

@@ -3,22 +3,17 @@
 // 28 to 31, a list of deliveries (deliveries.rt) for kinds 8 to 27. All numbers are little-endian.
 #![tactic(auto)]
 
-ghost use Rattle.std.specs.Prelude.{◌≡◌, ◌≤◌, min};
+ghost use Rattle.std.specs.Prelude.{◌≤◌};
+ghost use Rattle.std.proofs.Common.{rules};
 
-use cases_io::{LIST_BYTES, byte_at, count, read_full, report, u32_at};
+use cases_io::{LIST_BYTES, Records, byte_at, read_full, replay_input, report, u32_at};
 use recording_head::Head;
 use rooms::room;
 use std::io;
-use std::io::{Read, Write};
+use std::io::Read;
 
 mod deliveries;
 mod text;
-
-fn least(a: usize, b: usize) -> usize
-    ensures { result ≡ min a b }
-{
-    if a < b { a } else { b }
-}
 
 // Reads a body and tells whether the track agrees with it. A body that is cut short does not.
 fn record_agrees<R: Read>(input: &mut R, kind: usize, size: usize) -> io::Result<bool>
@@ -38,33 +33,27 @@ fn record_agrees<R: Read>(input: &mut R, kind: usize, size: usize) -> io::Result
     Ok(deliveries::agrees(&body, size))
 }
 
-// Counts the records up to the first that is cut in its head, of an unknown kind or too long, at most 100,000.
-fn replay<R: Read>(input: &mut R, agreed: &mut [u64; 32], total: &mut [u64; 32]) -> io::Result<()> {
-    for _ in 0..100000usize {
-        let mut head = [0u8; 5];
-        let got = read_full(input, &mut head)?;
-        let kind = byte_at(&head, 0) as usize;
-        if got < 5 || kind >= 32 {
-            break;
-        }
-        let size = u32_at(&head, 1);
-        if size > 1048576 {
-            break;
-        }
-        let same = record_agrees(input, kind, size)?;
-        count(agreed, total, kind, same);
-    }
-    Ok(())
-}
+struct Cases;
 
-// An array's length is known by its type, whatever was counted in it.
-fn report_all<W: Write>(output: &mut W, agreed: &[u64; 32], total: &[u64; 32]) -> io::Result<()> {
-    report(output, agreed, total)
+impl Records<5, 32> for Cases {
+    // A body that is too long ends the list too.
+    fn kind(head: &[u8; 5]) -> Option<usize> {
+        let kind = byte_at(head, 0) as usize;
+        if kind >= 32 || u32_at(head, 1) > 1048576 {
+            return None;
+        }
+        Some(kind)
+    }
+
+    fn agrees<R: Read>(input: &mut R, head: &[u8; 5]) -> io::Result<bool> {
+        let size = u32_at(head, 1).min(1048576);
+        record_agrees(input, byte_at(head, 0) as usize, size)
+    }
+
+    ghost few = { Prim.search rules };
 }
 
 fn main(rt: HostRuntime) -> io::Result<()> {
-    let mut agreed = [0u64; 32];
-    let mut total = [0u64; 32];
-    replay(&mut rt.stdin(), &mut agreed, &mut total)?;
-    report_all(&mut rt.stdout(), &agreed, &total)
+    let tallies = replay_input::<Cases, 5, 32, _>(&mut rt.stdin(), 100000)?;
+    report(&mut rt.stdout(), &tallies)
 }

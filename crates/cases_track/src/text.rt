@@ -4,7 +4,6 @@ ghost use Rattle.pitch_recording.specs.Recording.{recording_bytes};
 ghost use Rattle.track_text.specs.Program.{track_text};
 ghost use Rattle.cases_track.specs.Text.{Tells, TextAgrees};
 
-use crate::least;
 use cases_io::u32_at;
 use pitch_recording::{RECORDING_BYTES, RECORDING_NUMBERS, RECORDING_SAMPLES};
 use recording_head::Head;
@@ -38,7 +37,7 @@ pub fn agrees(head: Head, body: &[u8], size: usize) -> bool
         return false;
     }
     let whole = size - from + zeros;
-    let len = least(whole, RECORDING_BYTES);
+    let len = whole.min(RECORDING_BYTES);
     let end = from + len;
     is_told(head, &body[from..end], whole - len, &body[8..from])
 }

@@ -4,4 +4,4 @@ use Rattle.cases_io.specs.Lines.{kind_lines}
 use Rattle.cases_io.proofs.report.Given as goal
 
 abbrev pub invariant-loop-kind : goal.invariant-loop-kind
-invariant-loop-kind g l = Appends (g.W.Write.contents l.initial.output) (g.W.Write.contents l.output) (kind_lines l.agreed l.total l.kind-counter)
+invariant-loop-kind g l = Appends (g.W.Write.contents l.initial.output) (g.W.Write.contents l.output) (kind_lines l.tallies l.kind-counter)

@@ -3,6 +3,3 @@ use Rattle.cases_words.proofs.div32_agrees.Goals as goal
 
 pub silk_div32-requires : goal.silk_div32-requires
 silk_div32-requires c = c.divides.ensures c.if-divides.true
-
-pub silk_div32_16-requires : goal.silk_div32_16-requires
-silk_div32_16-requires c = c.divides.ensures c.if-divides.true

@@ -1,7 +1,0 @@
--- The invariants of `load_i32s`.
-use Rattle.cases_io.specs.Little.{i32s_at}
-use Rattle.cases_io.specs.LittleLaws.{Loaded}
-use Rattle.cases_io.proofs.load_i32s.Given as goal
-
-abbrev pub invariant-loop-i : goal.invariant-loop-i
-invariant-loop-i l = Loaded (i32s_at l.bytes l.at) l.initial.out l.i l.out
