@@ -8,7 +8,6 @@ use native.Mathlib.Omega.{arith}
 use Rattle.lists.specs.FillLaws.{length_tabulate, get_d_tabulate}
 use Rattle.lists.specs.Fill.{overwritten}
 use Rattle.pitch_settings.specs.declared.Settings.{Settings}
-use Rattle.pitch_settings.specs.Settings.{held_no}
 use Rattle.pitch_table.specs.declared.Row.{Row}
 use Rattle.pitch_table.specs.Row.{row_size, most_frames, row_at}
 use Rattle.pitch_text.specs.Text.{refused_text}

@@ -27,10 +27,9 @@ fn put_head(out: &mut [u8], settings: Held, frames: usize) -> usize
     requires { (frames ≤ most_frames) × (sheet_head_bytes ≤ length out.old) }
     ensures { Put out.old 0 (sheet_head settings.settings frames) result out.new × (result ≤ sheet_head_bytes) }
 {
-    let s = settings.settings;
-    let numbers = setting_numbers(s);
+    let numbers = setting_numbers(settings);
     let count = [frames as i32];
-    let p = put_digits(out, 0, s.rate as u32);
+    let p = put_digits(out, 0, settings.settings.rate as u32);
     let p = put_fields(out, p, &numbers[1..], SETTINGS_COUNT - 1);
     let p = put_fields(out, p, &count, 1);
     out[p] = b'\n';

@@ -27,8 +27,8 @@ others : (s : Settings) {numbers : List ℤ} → numbers ≡ setting_numbers s �
 unfolding setting_numbers
 others s e = ap (λ (l : List ℤ). take (settings_count - 1) (drop 1 l)) e
 
-pub overflow_cast-s : goal.overflow_cast-s
-overflow_cast-s c = omega (arith, (held_settings c.args.settings.settings c.args.settings.held).rate_high)
+pub overflow_cast-settings : goal.overflow_cast-settings
+overflow_cast-settings c = omega (arith, (held_settings c.args.settings.settings c.args.settings.held).rate_high)
 
 pub put_digits-p-requires : goal.put_digits-p-requires
 put_digits-p-requires c = omega (arith, short c.args.settings.settings c.args.settings.held, c.requires.1)
