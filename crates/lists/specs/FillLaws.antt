@@ -90,7 +90,7 @@ module _ {A : Type 0} where
       → take n out ++ (part ++ drop k (drop n out)) ≡ filled f (n + m) l
   unfolding filled
   filled_more f n m k l {out} {part} eo ep ek =
-      ap₂ (λ (t u : List A). t ++ (part ++ drop k u)) (ap (take n) eo ∙ take_filled f n l) (ap (drop n) eo ∙ drop_at (tabulate f n) (drop n l) n (length_tabulate f n))
+      ap₂ (λ (t u : List A). t ++ (part ++ drop k u)) (ap (take n) eo ∙ take_at (tabulate f n) (drop n l) n (length_tabulate f n)) (ap (drop n) eo ∙ drop_at (tabulate f n) (drop n l) n (length_tabulate f n))
       ∙ ap₂ (λ (t : List A) (i : ℕ). tabulate f n ++ (t ++ drop i (drop n l))) ep ek
       ∙ sym (append_assoc (tabulate f n) (tabulate (λ (j : ℕ). f (n + j)) m) (drop m (drop n l)))
       ∙ ap₂ (λ (t u : List A). t ++ u) (tabulate_join f n m) (drop-drop m n l)

@@ -1,50 +1,19 @@
--- Lists: the samples held and then those delivered, and a list laid at the front of the places for samples held.
-use Prim.Native.Nat.{ℕ, suc, ◌+◌, ◌-◌, ◌≤◌, ◌<◌}
-use mathlib.Core.Path.{◌≡◌, sym, ap, ◌∙◌}
-use mathlib.Core.List.{List, ◌++◌}
-use native.Mathlib.Omega.{arith}
-use lib.IntN.{ℤ, pos}
-use lib.ListN.{length, get_or, take, drop, set, get_or-append, length-drop, length-append, length-replicate}
-use lib.Seq.{length-take-le, get_or-take, get_or-drop, get_or-append-add, take-suc, drop-cons, set_at, append_snoc, take-length, take_at}
+-- Lists: a part of two lists one after the other, and a list laid at the front of the places for samples held.
+use Rattle.std.specs.Prelude.{◌≡◌, ℕ, ◌+◌, ◌-◌, ◌≤◌, ◌<◌, ◌⊎◌, min, List, ◌++◌, ℤ, pos, length, take, drop}
+use Rattle.std.proofs.Common.{sym, ap, ◌∙◌, inl, inr, ⊎_elim, arith, add-zero, append_assoc, append-nil, length-append, length-drop, drop-drop, take_at, drop_at}
+use Rattle.std.proofs.Math.Seq.{length-take-le, take-length, take-append-add, drop-append-add}
+use Rattle.std.proofs.lemmas.List.{length-replicate, take-append-le, drop-append-le}
 use Rattle.pitch_settings.specs.Settings.{longest_frame}
+use Rattle.track_paper.specs.FramesLaws.{lt_or_le}
 use Rattle.pitch_track.specs.Step.{zeros, padded}
-
-module _ (held samples : List ℤ) (count : ℕ) (fits : count ≤ length held) where
-  pub at_held : (p : ℕ) (z : ℤ) → p < count → get_or (take count held ++ samples) p z ≡ get_or held p z
-  at_held p z h =
-      get_or-append (take count held) samples z p (omega (arith, length-take-le count held fits))
-      ∙ get_or-take count held p z h
-
-  pub at_new : (p : ℕ) (z : ℤ) → count ≤ p → get_or (take count held ++ samples) p z ≡ get_or samples (p - count) z
-  at_new p z h =
-      ap (λ (i : ℕ). get_or (take count held ++ samples) i z) (omega (arith, length-take-le count held fits))
-      ∙ get_or-append-add (take count held) samples (p - count) z
-
-  pub length_pending : length (take count held ++ samples) ≡ count + length samples
-  length_pending = length-append (take count held) samples ∙ ap (λ (n : ℕ). n + length samples) (length-take-le count held fits)
 
 pub length_zeros : length zeros ≡ longest_frame
 unfolding zeros
 length_zeros = length-replicate longest_frame (pos 0)
 
--- one more element of w is laid over z
-pub lay_more : (w z : List ℤ) (j : ℕ) (x : ℤ) → j < length w → j < length z → x ≡ get_or w j (pos 0)
-    → set (take j w ++ drop j z) j x ≡ take (suc j) w ++ drop (suc j) z
-lay_more w z j x hw hz e =
-    rw (drop-cons z j (pos 0) hz, set_at (take j w) (get_or z j (pos 0)) (drop (suc j) z) x j (length-take-le j w (omega arith)), take-suc w j (pos 0) hw, e)
-    (sym (append_snoc (take j w) (get_or w j (pos 0)) (drop (suc j) z)))
-
 -- the part of x that is gathered
-module _ (x : List ℤ) (from size : ℕ) (fits : from + size ≤ length x) where
-  pub length_part : length (take size (drop from x)) ≡ size
-  length_part = length-take-le size (drop from x) (rw length-drop (omega arith))
-
-  pub part_at : (j : ℕ) → j < size → get_or (take size (drop from x)) j (pos 0) ≡ get_or x (from + j) (pos 0)
-  part_at j h = rw (get_or-take, get_or-drop)
-
--- all of w is laid over z
-pub lay_all : (w z : List ℤ) (j : ℕ) → j ≡ length w → take j w ++ drop j z ≡ w ++ drop (length w) z
-lay_all w z j e = rw (e, take-length)
+pub length_part : (x : List ℤ) (from size : ℕ) → from + size ≤ length x → length (take size (drop from x)) ≡ size
+length_part x from size fits = length-take-le size (drop from x) (rw length-drop (omega arith))
 
 pub padded_front : (w : List ℤ) (n : ℕ) → length w ≡ n → take n (padded w) ≡ w
 unfolding padded
@@ -53,3 +22,48 @@ padded_front w n e = take_at w (drop (length w) zeros) n e
 pub length_padded : (w : List ℤ) → length w ≤ longest_frame → length (padded w) ≡ longest_frame
 unfolding padded
 length_padded w h = simp (length-append, length-drop) (omega (arith, length_zeros))
+
+-- a list is laid over the zeros
+pub over : (w : List ℤ) (n : ℕ) → length w ≡ n → w ++ drop n zeros ≡ padded w
+unfolding padded
+over w n e = ap (λ (m : ℕ). w ++ drop m zeros) (sym e)
+
+-- x is laid at the front of z, and then y after it, up to `size`
+pub laid : (x y z : List ℤ) (kept size : ℕ) → length x ≡ kept → kept ≤ size
+    → take kept (x ++ drop kept z) ++ (y ++ drop (size - kept) (drop kept (x ++ drop kept z))) ≡ (x ++ y) ++ drop size z
+laid x y z kept size e h =
+    let m : kept + (size - kept) ≡ size = omega arith in
+    ap (λ (l : List ℤ). l ++ (y ++ drop (size - kept) (drop kept (x ++ drop kept z)))) (take_at x (drop kept z) kept e)
+    ∙ ap (λ (l : List ℤ). x ++ (y ++ drop (size - kept) l)) (drop_at x (drop kept z) kept e)
+    ∙ ap (λ (l : List ℤ). x ++ (y ++ l)) (drop-drop (size - kept) kept z ∙ ap (λ (n : ℕ). drop n z) m)
+    ∙ sym (append_assoc x y (drop size z))
+
+-- a front of two lists: all of the first, or none of the second
+front_of : (a b : List ℤ) (k m : ℕ) → (k ≡ length a) ⊎ ((m ≡ 0) × (k ≤ length a)) → take (k + m) (a ++ b) ≡ take k a ++ take m b
+front_of a b k m d =
+    ⊎_elim
+    (λ (e : k ≡ length a). rw e (take-append-add a b m ∙ ap (λ (l : List ℤ). l ++ take m b) (sym (take-length a))))
+    (λ (q : (m ≡ 0) × (k ≤ length a)). rw q.0 (ap (λ (n : ℕ). take n (a ++ b)) (add-zero k) ∙ take-append-le k a b q.1 ∙ sym (append-nil (take k a))))
+    d
+
+-- the part of two lists that starts in the first
+pub part_within : (h s : List ℤ) (from size kept : ℕ) → kept ≡ min (length h - from) size → from < length h
+    → take (from + kept - from) (drop from h) ++ take (size - kept) s ≡ take size (drop from (h ++ s))
+part_within h s from size kept k lt =
+    let n : from + kept - from ≡ kept = omega arith in
+    let m : kept + (size - kept) ≡ size = omega arith in
+    let l : length (drop from h) ≡ length h - from = length-drop from h in
+    let d : (kept ≡ length (drop from h)) ⊎ ((size - kept ≡ 0) × (kept ≤ length (drop from h))) =
+    ⊎_elim (λ (p : length h - from < size). inl (omega arith)) (λ (p : size ≤ length h - from). inr (omega arith, omega arith)) (lt_or_le (length h - from) size) in
+    ap (λ (i : ℕ). take i (drop from h) ++ take (size - kept) s) n
+    ∙ sym (front_of (drop from h) s kept (size - kept) d)
+    ∙ ap (λ (i : ℕ). take i (drop from h ++ s)) m
+    ∙ ap (take size) (sym (drop-append-le from h s (omega arith)))
+
+-- the part of two lists that starts in the second
+pub part_after : (h s : List ℤ) (from size : ℕ) → length h ≤ from → take (from - length h + size - (from - length h)) (drop (from - length h) s) ≡ take size (drop from (h ++ s))
+part_after h s from size le =
+    let n : from - length h + size - (from - length h) ≡ size = omega arith in
+    let m : length h + (from - length h) ≡ from = omega arith in
+    ap (λ (i : ℕ). take i (drop (from - length h) s)) n
+    ∙ ap (take size) (sym (drop-append-add h s (from - length h)) ∙ ap (λ (i : ℕ). drop i (h ++ s)) m)

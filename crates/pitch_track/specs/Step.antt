@@ -1,15 +1,14 @@
 -- What one call says (docs/SCOPE.md, Track): `start` is equated with `start_call`, and `deliver` with `deliver_call`, for every state, table and delivery, refusals too. Definitions only.
-use Rattle.std.specs.Prelude.{ℕ, ◌+◌, ◌-◌, ◌*◌, cond, List, ◌++◌, ℤ, pos, length, take, drop, replicate, eqb}
+use Rattle.std.specs.Prelude.{Result, Ok, Err, ℕ, ◌+◌, ◌-◌, ◌*◌, cond, List, ◌++◌, ℤ, pos, length, take, drop, replicate, eqb}
+use Rattle.refusals.specs.Refusals.{told}
 use Rattle.pitch_settings.specs.Settings.{longest_frame, hop_length}
 use Rattle.track_settings.specs.declared.TrackSettings.{TrackSettings}
 use Rattle.track_settings.specs.TrackSettings.{stored_settings, track_settings_no}
 use Rattle.pitch_table.specs.Row.{row_size}
-use Rattle.track_paper.specs.declared.TrackAnswer.TheVariants.{Accepted, Refused}
 use Rattle.track_paper.specs.Paper.{F, answer_of, no_previous, previous, paper_numbers, track_limit}
 use Rattle.track_refusal.specs.Refusal.{delivery_refusal}
 use Rattle.pitch_track.specs.declared.Track.{Track}
-use Rattle.pitch_track.specs.declared.Started.{Started}
-use Rattle.pitch_track.specs.declared.Delivered.{Delivered}
+use Rattle.pitch_track.specs.declared.Answered.{Answered}
 
 -- no sample held
 unfoldable pub zeros : List ℤ
@@ -27,17 +26,25 @@ fresh_track k = record { settings = k; frames = 0; held = zeros; count = 0; prev
 abbrev pub start_no : TrackSettings → ℕ
 start_no k = track_settings_no k no_previous.signal
 
+-- what a call says, with its refusal's number, and the track that it hands back
+pub record Said : Type 0 where
+  pub answer : Result ℕ ℕ
+  pub track : Track
+
+abbrev pub said : Answered → Said
+said r = record { answer = told r.answer; track = r.track }
+
 -- what a start says, and its track
-unfoldable pub start_call : TrackSettings → Started
+unfoldable pub start_call : TrackSettings → Said
 start_call k = record { answer = answer_of (start_no k) 0; track = fresh_track k }
 
 -- what a delivery says, with the track after it, and the table at the end
 pub record DeliveryOutcome : Type 0 where
-  pub delivered : Delivered
+  pub delivered : Said
   pub table : List ℤ
 
-abbrev pub delivery_outcome : Delivered → List ℤ → DeliveryOutcome
-delivery_outcome r t = record { delivered = r; table = t }
+abbrev pub delivery_outcome : Answered → List ℤ → DeliveryOutcome
+delivery_outcome r t = record { delivered = said r; table = t }
 
 -- the samples held and then those delivered
 unfoldable pub pending : Track → List ℤ → List ℤ
@@ -49,7 +56,7 @@ accepted_delivery tr t d k =
     record {
       delivered =
           record {
-            answer = Accepted (tr.frames + k);
+            answer = Ok (tr.frames + k);
             track =
                 record {
                   settings = tr.settings;
@@ -75,4 +82,4 @@ unfoldable pub deliver_call : Track → List ℤ → List ℤ → DeliveryOutcom
 deliver_call tr t d =
     cond (eqb (delivery_no tr t d) 0)
     (accepted_delivery tr t d (F (stored_settings tr.settings) (tr.count + length d)))
-    (record { delivered = record { answer = Refused (delivery_no tr t d); track = tr }; table = t })
+    (record { delivered = record { answer = Err (delivery_no tr t d); track = tr }; table = t })

@@ -1,24 +1,27 @@
 // A pitch track that is fed by deliveries of samples: start and deliver.
 #![tactic(auto)]
 
-ghost use Rattle.std.specs.Prelude.{◌≡◌, [], ◌∷◌, ◌++◌, ◌+◌, ◌*◌, ◌<◌, ◌≤◌, length, take, drop, get_or, pos};
+ghost use Rattle.std.specs.Prelude.{◌≡◌, [], ◌∷◌, ◌++◌, ◌+◌, ◌*◌, ◌<◌, ◌≤◌, length, take, drop, pos, cond, eqb};
 ghost use Rattle.answers.specs.Answer.{answer_numbers};
-ghost use Rattle.pitch_settings.specs.Settings.{settings_no, frame_length, longest_frame, hop_length};
+ghost use Rattle.refusals.specs.Refusals.{told};
+ghost use Rattle.pitch_settings.specs.Settings.{frame_length, hop_length};
 ghost use Rattle.pitch_table.specs.Row.{row_size};
-ghost use Rattle.silk_pitch_analysis.specs.Frame.{frame_row};
-ghost use Rattle.silk_pitch_analysis.specs.declared.RowAnswer.TheVariants.{Analysed};
 ghost use Rattle.track_settings.specs.TrackSettings.{stored_settings};
-ghost use Rattle.track_paper.specs.Paper.{frame_count, track_answer_numbers, row_type, after, previous, paper_numbers};
-ghost use Rattle.pitch_track.specs.Step.{padded, start_no, start_call, delivery_no, frames_after, deliver_call, delivery_outcome};
+ghost use Rattle.track_paper.specs.Paper.{F, track_answer_numbers, row_type, after, previous, paper_numbers};
+ghost use Rattle.pitch_track.specs.Step.{said, start_no, start_call, delivery_no, frames_after, deliver_call, delivery_outcome};
 
-use pitch_settings::{LONGEST_FRAME, Settings, frame_length, hop_length};
+mod pending;
+
+use pending::Pending;
+use pitch_settings::{LONGEST_FRAME, Settings};
 use pitch_table::{Row, put_row};
-use silk_pitch_analysis::{RowAnswer, frame_row};
-use track_paper::{Prev, TrackAnswer, track_limit};
-use track_refusal::{delivery_refusal, frames_in};
-use track_settings::{TrackSettings, row_settings, stored_settings, track_settings_no};
+use refusals::Refusal;
+use track_paper::{Prev, track_limit};
+use track_refusal::{Delivery, Framing};
+use track_settings::{AnalysedTrack, TrackSettings};
 
-// A track's state: its settings, the frames done, the samples held after the last frame's start (the first `count` places of `held`), and what the last row left to the next.
+// A track's state: its settings, the frames done, the samples held after the last frame's start (the first `count` places of `held`), and what the last row left to the next. A program keeps it
+// as plain numbers, goes in and comes back by value, and a state that breaks the rules is refused: so `count` stands beside `held`, and no type keeps what they must be.
 #[derive(Drop)]
 pub struct Track {
     pub settings: TrackSettings,
@@ -28,17 +31,10 @@ pub struct Track {
     pub prev: Prev,
 }
 
-// What a start says, and the track that it makes.
+// What a call says, the frames then done or the refusal, and the track that it hands back, after a refusal too.
 #[derive(Drop)]
-pub struct Started {
-    pub answer: TrackAnswer,
-    pub track: Track,
-}
-
-// What a delivery says, and the track after it.
-#[derive(Drop)]
-pub struct Delivered {
-    pub answer: TrackAnswer,
+pub struct Answered {
+    pub answer: Result<usize, Refusal>,
     pub track: Track,
 }
 
@@ -46,185 +42,119 @@ pub struct Delivered {
 fn row_type(r: Row) -> i32
     ensures { result ≡ row_type r }
 {
-    if r.verdict == 0 {
-        return 2;
-    }
-    1
+    if r.verdict == 0 { 2 } else { 1 }
+}
+
+// The lag of a row's last subframe, of frames with 2 or 4 of them.
+fn last_lag(nb: usize, r: Row) -> i32
+    ensures { result ≡ cond (eqb nb 2) r.lag1 r.lag3 }
+{
+    if nb == 2 { r.lag1 } else { r.lag3 }
 }
 
 // What a row leaves to the next.
+#[tactic(auto, unfolding(track_paper::specs::Paper::after))]
 fn left_by(s: Settings, r: Row) -> Prev
     ensures { result ≡ after s r }
 {
-    let correlation = r.correlation;
-    let signal = row_type(r);
-    let lag = if s.nb == 2 { r.lag1 } else { r.lag3 };
     Prev {
-        lag,
-        correlation,
-        signal,
+        lag: last_lag(s.nb, r),
+        correlation: r.correlation,
+        signal: row_type(r),
     }
-}
-
-// Sample p of the samples held and then those delivered.
-fn sample_at(held: &[i16], count: usize, samples: &[i16], p: usize) -> i16
-    requires { (count ≤ length held.now) × (p < count + length samples.now) }
-    ensures { result ≡ get_or (take count held.now ++ samples.now) p (pos 0) }
-{
-    if p < count {
-        return held[p];
-    }
-    samples[p - count]
-}
-
-// The `size` samples from `from` on, of those held and then those delivered; the other places are 0.
-fn gather(
-    held: &[i16],
-    count: usize,
-    samples: &[i16],
-    from: usize,
-    size: usize,
-) -> [i16; LONGEST_FRAME]
-    requires { (count ≤ length held.now) × (from + size ≤ count + length samples.now) × (size ≤ longest_frame) }
-    ensures { result ≡ padded (take size (drop from (take count held.now ++ samples.now))) }
-{
-    let mut out = [0i16; LONGEST_FRAME];
-    let mut j = 0;
-    while j < size {
-        let x = sample_at(held, count, samples, from + j);
-        out[j] = x;
-        j += 1;
-    }
-    out
-}
-
-// What is said of the frame that starts at `from`: its row.
-fn window_row(
-    s: Settings,
-    held: &[i16],
-    count: usize,
-    samples: &[i16],
-    from: usize,
-    p: Prev,
-) -> RowAnswer
-    requires { (settings_no s ≡ 0) × (count ≤ length held.now) × (from + frame_length s ≤ count + length samples.now) }
-    ensures { result ≡ Analysed (frame_row s (take (frame_length s) (drop from (take count held.now ++ samples.now))) p.lag p.correlation) }
-{
-    let len = frame_length(s);
-    let buffer = gather(held, count, samples, from, len);
-    let lag = p.lag;
-    let correlation = p.correlation;
-    frame_row(s, &buffer[..len], lag, correlation)
 }
 
 // `new` rows, from row `frames` of the table on, each with the threshold that the row before it gives.
 fn put_rows(
-    k: TrackSettings,
-    held: &[i16],
-    count: usize,
-    samples: &[i16],
+    k: AnalysedTrack,
+    pending: Pending,
     table: &mut [i32],
     frames: usize,
     new: usize,
     p: Prev,
 ) -> Prev
-    requires { (settings_no (stored_settings k) ≡ 0)
-        × (count ≤ length held.now)
-        × (new ≡ frame_count (frame_length (stored_settings k)) (hop_length (stored_settings k)) (count + length samples.now))
-        × (0 < new → (frames + new) * row_size ≤ length table.old) }
-    ensures value { result ≡ previous k (take count held.now ++ samples.now) p new }
+    requires { (new ≡ F (stored_settings k.settings) (length pending.held.now + length pending.samples.now)) × (0 < new → (frames + new) * row_size ≤ length table.old) }
+    ensures value { result ≡ previous k.settings (pending.entry.held.now ++ pending.entry.samples.now) p new }
     ensures table_after { table.new
         ≡ take (frames * row_size) table.old
-        ++ paper_numbers k (take count held.now ++ samples.now) p new
+        ++ paper_numbers k.settings (pending.entry.held.now ++ pending.entry.samples.now) p new
         ++ drop ((frames + new) * row_size) table.old }
 {
-    let s = stored_settings(k);
-    let hop = hop_length(s);
+    let s = k.stored();
+    let hop = s.hop_length();
     let mut q = p;
-    let mut from = 0;
-    let mut i = 0;
-    while i < new {
-        let of_row = row_settings(k, q.signal);
-        let answer = window_row(of_row, held, count, samples, from, q);
-        let RowAnswer::Analysed(row) = answer else {
-            return q;
-        };
+    for i in 0..new {
+        let of_row = k.of_row(q.signal);
+        let row = pending.row(of_row, i * hop, q);
         put_row(table, frames + i, row);
-        q = left_by(s, row);
-        from += hop;
-        i += 1;
+        q = left_by(s.settings, row);
     }
     q
 }
 
 impl Track {
     // A fresh track of these settings, or refusals 1 to 3 and 11.
-    pub fn start(k: TrackSettings) -> Started
-        ensures value { result ≡ start_call k }
-        ensures answer_value { track_answer_numbers result.answer ≡ answer_numbers (start_no k) (pos 0 ∷ []) }
+    #[tactic(auto, unfolding(crate::specs::Step::start_call, crate::specs::Step::fresh_track, crate::specs::Step::zeros, track_paper::specs::Paper::answer_of))]
+    pub fn start(k: TrackSettings) -> Answered
+        ensures value { said result ≡ start_call k }
+        ensures answer_value { track_answer_numbers (told result.answer) ≡ answer_numbers (start_no k) (pos 0 ∷ []) }
     {
-        let no = track_settings_no(k, 0);
-        let answer = if no == 0 {
-            TrackAnswer::Accepted(0)
-        } else {
-            TrackAnswer::Refused(no)
-        };
-        let zeros = [0i16; LONGEST_FRAME];
-        let prev = Prev {
-            lag: 0,
-            correlation: 0,
-            signal: 0,
-        };
-        let track = Track {
-            settings: k,
-            frames: 0,
-            held: zeros,
-            count: 0,
-            prev,
-        };
-        Started { answer, track }
+        Answered {
+            answer: k.analysed(0).map(|_| 0),
+            track: Track {
+                settings: k,
+                frames: 0,
+                held: [0; LONGEST_FRAME],
+                count: 0,
+                prev: Prev {
+                    lag: 0,
+                    correlation: 0,
+                    signal: 0,
+                },
+            },
+        }
     }
 
-    // Takes a delivery of samples, writes the row of each frame that it finishes into the table, and hands back the advanced track; refused with 1 to 3, 11, 6, 9 or 7, in this order, it changes
-    // nothing.
-    pub fn deliver(mut self, samples: &[i16], table: &mut [i32]) -> Delivered
+    // Takes a delivery of samples, writes the row of each frame that it finishes into the table, and hands back the advanced track, since a state goes in and comes back by value; refused with
+    // 1 to 3, 11, 6, 9 or 7, in this order, it changes nothing.
+    pub fn deliver(mut self, samples: &[i16], table: &mut [i32]) -> Answered
         ensures table_after { delivery_outcome result table.new ≡ deliver_call self table.old samples.now }
-        ensures answer_value { track_answer_numbers result.answer ≡ answer_numbers (delivery_no self table.old samples.now) (pos (frames_after self samples.now) ∷ []) }
+        ensures answer_value { track_answer_numbers (told result.answer) ≡ answer_numbers (delivery_no self table.old samples.now) (pos (frames_after self samples.now) ∷ []) }
     {
-        let k = self.settings;
-        let p = self.prev;
-        let frames = self.frames;
-        let count = self.count;
-        let limit = track_limit();
-        let d = samples.len();
-        let numbers = table.len();
-        let no = delivery_refusal(limit, k, p.signal, frames, count, d, numbers);
-        if no != 0 {
-            let answer = TrackAnswer::Refused(no);
-            return Delivered {
-                answer,
-                track: self,
-            };
-        }
-        let s = stored_settings(k);
-        let len = frame_length(s);
-        let hop = hop_length(s);
-        let n = count + d;
-        let new = frames_in(len, hop, n);
-        let held = self.held;
-        let q = put_rows(k, &held, count, samples, table, frames, new, p);
-        let from = new * hop;
-        let left = n - from;
-        let rest = gather(&held, count, samples, from, left);
-        let done = frames + new;
-        self.frames = done;
-        self.held = rest;
-        self.count = left;
-        self.prev = q;
-        let answer = TrackAnswer::Accepted(done);
-        Delivered {
+        let answer = self.take(samples, table);
+        Answered {
             answer,
             track: self,
         }
+    }
+
+    // The delivery, to a track in its place.
+    fn take(&mut self, samples: &[i16], table: &mut [i32]) -> Result<usize, Refusal>
+        ensures { delivery_outcome (record { answer = result; track = self.new }) table.new ≡ deliver_call self.old table.old samples.now }
+    {
+        let delivery = Delivery {
+            signal_type: self.prev.signal,
+            frames: self.frames,
+            count: self.count,
+            samples: samples.len(),
+            numbers: table.len(),
+        };
+        let k = delivery.check(track_limit(), self.settings)?;
+        let framing = Framing::from(k.stored());
+        let n = self.count + samples.len();
+        let new = framing.frames_in(n);
+        let from = new * framing.hop;
+        let held = self.held;
+        let pending = Pending {
+            held: &held[..self.count],
+            samples,
+        };
+        let prev = put_rows(k, pending, table, self.frames, new, self.prev);
+        let rest = pending.window(from, n - from);
+        self.frames += new;
+        self.held = rest;
+        self.count = n - from;
+        self.prev = prev;
+        Ok(self.frames)
     }
 }

@@ -1,14 +1,9 @@
 -- The claim over a list of deliveries: one call takes the state on paper of J to that of J after the delivery, and so a chain of calls from a fresh start does.
-use Prim.Native.Nat.{ℕ, ◌+◌, ◌-◌, ◌*◌, ◌/◌, ◌≤◌, ◌<◌}
-use mathlib.Core.Path.{◌≡◌, refl, sym, ap, ◌∙◌}
-use mathlib.Core.List.{List, [], ◌∷◌, ◌++◌, append_assoc, append-nil}
-use mathlib.Core.Logic.{⊎_elim}
-use native.Mathlib.Omega.{arith}
-use native.Mathlib.Nat.{add-mul, zero-mul}
-use lib.IntN.{ℤ}
-use lib.ListN.{length, take, drop, length-append, length-drop}
-use lib.Seq.{drop-drop, drop-append-le, take_at, drop_at, drop-append-add}
-use borrow.Author.Tests.{ne_eqb}
+use Rattle.std.specs.Prelude.{◌≡◌, refl, Ok, Err, ℕ, ◌+◌, ◌-◌, ◌*◌, ◌/◌, ◌≤◌, ◌<◌, List, [], ◌∷◌, ◌++◌, ℤ, length, take, drop}
+use Rattle.std.proofs.Common.{sym, ap, ◌∙◌, ⊎_elim, arith, ne_eqb, append_assoc, append-nil, length-append, length-drop, drop-drop, take_at, drop_at, add-mul}
+use Rattle.std.proofs.lemmas.List.{drop-append-le}
+use Rattle.std.proofs.Math.Seq.{drop-append-add}
+use Rattle.std.proofs.Math.Nat.{zero-mul}
 use Rattle.pitch_settings.specs.declared.Settings.{Settings}
 use Rattle.pitch_settings.specs.Settings.{frame_length, hop_length, settings_no}
 use Rattle.pitch_settings.specs.SettingsLaws.{accepted_settings}
@@ -17,7 +12,6 @@ use Rattle.track_settings.specs.TrackSettings.{stored_settings, track_settings_n
 use Rattle.track_settings.specs.TrackSettingsLaws.{known}
 use Rattle.pitch_table.specs.Row.{row_size, most_frames}
 use Rattle.track_paper.specs.declared.Prev.{Prev}
-use Rattle.track_paper.specs.declared.TrackAnswer.TheVariants.{Accepted, Refused}
 use Rattle.track_paper.specs.Paper.{F, previous, no_previous, paper_numbers, track_limit, paper_no, joined_by, paper_answer, joined_samples, paper_answers, frames_done, samples_held, paper_table}
 use Rattle.track_paper.specs.FramesLaws.{lt_or_le, eq_or_ne, short}
 use Rattle.track_paper.specs.RowsLaws.{type_accepted, length_rows, before_drop, rows_drop, before_stable, rows_stable, row_in}
@@ -25,7 +19,7 @@ use Rattle.track_paper.specs.PaperLaws.{paper_over, paper_none, paper_seven, pap
 use Rattle.track_refusal.specs.Refusal.{delivery_refusal}
 use Rattle.track_refusal.specs.RefusalLaws.{over, seven, room, none}
 use Rattle.pitch_track.specs.declared.Track.{Track}
-use Rattle.pitch_track.specs.Step.{delivery_outcome, padded, start_no, start_call, fresh_track, delivery_no, pending, accepted_delivery, deliver_call}
+use Rattle.pitch_track.specs.Step.{DeliveryOutcome, padded, start_no, start_call, fresh_track, delivery_no, pending, accepted_delivery, deliver_call}
 use Rattle.pitch_track.proofs.Lists.{padded_front}
 use Rattle.pitch_track.proofs.Deliver.{refuses, accepts, made}
 use Rattle.track_chain.specs.Chain.{Left, chain, run_from_start, final_samples, paper_state, OnPaper, answer_nos, accepted_samples, accepted_in, finished, SameRows}
@@ -148,7 +142,7 @@ module _ (ts : TrackSettings) (right : start_no ts ≡ 0) where
           ≡ take (f * row_size) (paper_table ts t j) ++ paper_numbers ts (pending (paper_state ts j) d) (paper_state ts j).prev k ++ drop ((f + k) * row_size) (paper_table ts t j)
       table_then = rw (front, back) table_raw
 
-      grown : accepted_delivery (paper_state ts j) (paper_table ts t j) d k ≡ delivery_outcome (record { answer = Accepted (frames_done s (j ++ d)); track = paper_state ts (j ++ d) }) (paper_table ts t (j ++ d))
+      grown : accepted_delivery (paper_state ts j) (paper_table ts t j) d k ≡ record { delivered = record { answer = Ok (frames_done s (j ++ d)); track = paper_state ts (j ++ d) }; table = paper_table ts t (j ++ d) }
       unfolding paper_state
       grown =
           let m : frames_done s (j ++ d) * hop_length s ≡ f * hop_length s + k * hop_length s = ap (λ (i : ℕ). i * hop_length s) done ∙ add-mul f k (hop_length s) in
@@ -160,7 +154,7 @@ module _ (ts : TrackSettings) (right : start_no ts ≡ 0) where
           done (ap padded left) n last table_then)
 
       accepted_as : accepted_delivery (paper_state ts j) (paper_table ts t j) d (F (stored_settings (paper_state ts j).settings) ((paper_state ts j).count + length d))
-          ≡ delivery_outcome (record { answer = Accepted (frames_done s (j ++ d)); track = paper_state ts (j ++ d) }) (paper_table ts t (j ++ d))
+          ≡ record { delivered = record { answer = Ok (frames_done s (j ++ d)); track = paper_state ts (j ++ d) }; table = paper_table ts t (j ++ d) }
       unfolding paper_state
       accepted_as = grown
 
@@ -168,10 +162,14 @@ module _ (ts : TrackSettings) (right : start_no ts ≡ 0) where
     abbrev whole_rows : ℕ
     whole_rows = length t / row_size
 
+    -- a refusal by its number
+    abbrev refused_by : List ℤ → ℕ → DeliveryOutcome
+    refused_by j n = record { delivered = record { answer = Err n; track = paper_state ts j }; table = paper_table ts t j }
+
     -- one call
     step : (j d : List ℤ) → Reached s t j
         → deliver_call (paper_state ts j) (paper_table ts t j) d
-        ≡ delivery_outcome (record { answer = paper_answer track_limit s whole_rows j d; track = paper_state ts (joined_by track_limit s whole_rows j d) }) (paper_table ts t (joined_by track_limit s whole_rows j d))
+        ≡ record { delivered = record { answer = paper_answer track_limit s whole_rows j d; track = paper_state ts (joined_by track_limit s whole_rows j d) }; table = paper_table ts t (joined_by track_limit s whole_rows j d) }
     step j d r =
         ⊎_elim
         (λ (e : paper_no track_limit s whole_rows j d ≡ 0).
@@ -180,7 +178,7 @@ module _ (ts : TrackSettings) (right : start_no ts ≡ 0) where
         (λ (e : paper_no track_limit s whole_rows j d ≡ 0 → ⊥).
         rw (says_no track_limit s whole_rows j d e, stays track_limit s whole_rows j d e)
         (refuses (paper_state ts j) (paper_table ts t j) d (λ q. e (sym (same_no j d r) ∙ q))
-        ∙ ap (λ (n : ℕ). delivery_outcome (record { answer = Refused n; track = paper_state ts j }) (paper_table ts t j)) (same_no j d r)))
+        ∙ ap (refused_by j) (same_no j d r)))
         (eq_or_ne (paper_no track_limit s whole_rows j d) 0)
 
     reach : (j d : List ℤ) → Reached s t j → Reached s t (joined_by track_limit s whole_rows j d)
@@ -188,13 +186,13 @@ module _ (ts : TrackSettings) (right : start_no ts ≡ 0) where
         ⊎_elim
         (λ (e : paper_no track_limit s whole_rows j d ≡ 0).
         let n : frames_done s (j ++ d) ≡ F s (length j + length d) = ap (F s) (length-append j d) in
-        let within : F s (length j + length d) ≤ most_frames = within_limit track_limit s whole_rows j d (λ z. omega arith) e in
+        let within : F s (length j + length d) ≤ most_frames = within_limit track_limit s whole_rows j d e in
         rw (joins track_limit s whole_rows j d e)
         (record {
           few = omega arith;
           fit =
               ⊎_elim
-              (λ (p : F s (length j) < F s (length j + length d)). let q = within_rows track_limit s whole_rows j d (λ z. omega arith) e p in omega arith)
+              (λ (p : F s (length j) < F s (length j + length d)). let q = within_rows track_limit s whole_rows j d e p in omega arith)
               (λ (p : F s (length j + length d) ≤ F s (length j)). omega (arith, r.fit))
               (lt_or_le (F s (length j)) (F s (length j + length d)));
         }))
@@ -236,13 +234,13 @@ module _ (ts : TrackSettings) (right : start_no ts ≡ 0) where
     pub reached : (ds : List (List ℤ)) → Reached s t (final_samples ts t ds)
     reached ds = reach_all ds [] reached_none
 
-    -- DEMAND 3, as one equation: all that a chain of calls leaves is what the paper says
+    -- as one equation: all that a chain of calls leaves is what the paper says
     pub equation : (ds : List (List ℤ))
         → run_from_start ts t ds
         ≡ record { said = paper_answers track_limit s whole_rows [] ds; track = paper_state ts (final_samples ts t ds); table = paper_table ts t (final_samples ts t ds) }
     equation ds = ap (λ (tr : Track). chain tr t ds) fresh ∙ ap (λ (l : List ℤ). chain (paper_state ts []) l ds) bare ∙ chain_is ds [] reached_none
 
-    -- DEMAND 3, part by part
+    -- part by part
     pub on_paper : (ds : List (List ℤ)) → OnPaper ts t ds
     unfolding paper_state paper_table
     on_paper ds =
@@ -286,7 +284,7 @@ module _ (ts : TrackSettings) (right : start_no ts ≡ 0) where
     accepted_is : (ds : List (List ℤ)) → accepted_in ts t ds ≡ final_samples ts t ds
     accepted_is ds = ap (λ (l : Left). accepted_samples (answer_nos l.said) ds) (equation ds) ∙ kept_then ds []
 
-  -- DEMAND 3, the cuts
+  -- the cuts
   pub same_rows : (t u : List ℤ) (ds es : List (List ℤ)) → SameRows ts t u ds es
   same_rows t u ds es h =
       let e : final_samples ts t ds ≡ final_samples ts u es = sym (accepted_is t ds) ∙ h ∙ accepted_is u es in

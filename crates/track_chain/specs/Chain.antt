@@ -1,9 +1,8 @@
 -- A chain of deliveries from a fresh start, and what the track on paper says of all of it (docs/SCOPE.md, Track). Definitions only.
-use Rattle.std.specs.Prelude.{ℕ, suc, ◌*◌, ◌/◌, ◌<◌, ◌≡◌, cond, List, [], ◌∷◌, ◌++◌, ℤ, length, take, drop, eqb}
+use Rattle.std.specs.Prelude.{Result, ℕ, suc, ◌*◌, ◌/◌, ◌<◌, ◌≡◌, cond, List, [], ◌∷◌, ◌++◌, ℤ, length, take, drop, eqb}
 use Rattle.track_settings.specs.declared.TrackSettings.{TrackSettings}
 use Rattle.track_settings.specs.TrackSettings.{stored_settings, row_settings}
 use Rattle.pitch_track.specs.declared.Track.{Track}
-use Rattle.track_paper.specs.declared.TrackAnswer.{TrackAnswer}
 use Rattle.pitch_table.specs.Row.{row_size, numbers, row_at}
 use Rattle.track_paper.specs.Paper.{answer_no, track_limit, after, previous, no_previous, window, paper_row, joined_samples, paper_answers, frames_done, samples_held, paper_table}
 use Rattle.track_chain.specs.Meaning.{RowSays}
@@ -11,7 +10,7 @@ use Rattle.pitch_track.specs.Step.{DeliveryOutcome, padded, start_call, deliver_
 
 -- what a chain of calls leaves: each call's answer, and the state and the table at the end
 pub record Left : Type 0 where
-  pub said : List TrackAnswer
+  pub said : List (Result ℕ ℕ)
   pub track : Track
   pub table : List ℤ
 
@@ -42,7 +41,7 @@ pub record OnPaper (k : TrackSettings) (t : List ℤ) (ds : List (List ℤ)) : T
   pub size : length (run_from_start k t ds).table ≡ length t
 
 -- the numbers that a chain's answers say: 0 where a delivery was accepted, else the refusal's
-unfoldable pub answer_nos : List TrackAnswer → List ℕ
+unfoldable pub answer_nos : List (Result ℕ ℕ) → List ℕ
 answer_nos [] = []
 answer_nos (a ∷ rest) = answer_no a ∷ answer_nos rest
 

@@ -1,86 +1,64 @@
 // A whole run of a pitch track: a fresh start, and then deliveries one after the other.
 #![tactic(auto)]
 
-ghost use Rattle.std.specs.Prelude.{◌≡◌, [], ◌∷◌, min, pos, length};
+ghost use Rattle.std.specs.Prelude.{◌≡◌, [], ◌∷◌, pos, length};
 ghost use Rattle.answers.specs.Answer.{answer_numbers};
+ghost use Rattle.refusals.specs.Refusals.{told};
 ghost use Rattle.pitch_track.specs.Step.{start_no};
 ghost use Rattle.track_paper.specs.Paper.{track_answer_numbers};
-ghost use Rattle.track_chain.specs.Chain.{answer_nos, chain};
-ghost use Rattle.track_run.specs.Run.{parts, deliveries, run_outcome, run_call, EndsOnPaper};
+ghost use Rattle.track_chain.specs.Chain.{chain};
+ghost use Rattle.track_run.specs.Run.{parts, deliveries, told_all, run_outcome, run_call, EndsOnPaper};
 
-use pitch_track::Track;
-use track_paper::{TrackAnswer, answer_number};
+use pitch_track::{Answered, Track};
+use refusals::Refusal;
 use track_settings::TrackSettings;
 
-// What a whole run says: the answer of its start, and the track at its end.
-#[derive(Drop)]
-pub struct Ran {
-    pub answer: TrackAnswer,
-    pub track: Track,
-}
-
-fn lesser(a: usize, b: usize) -> usize
-    ensures { result ≡ min a b }
-{
-    if a < b {
-        return a;
-    }
-    b
-}
-
-// Deliveries one after the other: the parts of `samples` whose lengths are `cuts`, of which one past the end has what is left. `said` gets a number for each.
+// Deliveries one after the other: the parts of `samples` whose lengths are `cuts`, of which one past the end has what is left. `said` gets the answer of each.
 fn deliver_parts(
     mut track: Track,
     samples: &[i16],
     cuts: &[usize],
     table: &mut [i32],
-    said: &mut [usize],
+    said: &mut [Result<usize, Refusal>],
 ) -> Track
     requires { length said.old ≡ length cuts.now }
     ensures value { result ≡ (chain track table.old (parts cuts.now samples.now)).track }
-    ensures said_after { said.new ≡ answer_nos (chain track table.old (parts cuts.now samples.now)).said }
+    ensures said_after { told_all said.new ≡ (chain track table.old (parts cuts.now samples.now)).said }
     ensures table_after { table.new ≡ (chain track table.old (parts cuts.now samples.now)).table }
 {
     let mut at = 0;
-    let mut i = 0;
-    while i < cuts.len() {
-        let n = lesser(cuts[i], samples.len() - at);
-        let end = at + n;
-        let part = &samples[at..end];
-        let d = track.deliver(part, table);
-        let next = d.track;
-        track = next;
-        let a = d.answer;
-        said[i] = answer_number(a);
+    for (i, &cut) in cuts.iter().enumerate() {
+        let end = at + cut.min(samples.len() - at);
+        let d = track.deliver(&samples[at..end], table);
+        track = d.track;
+        said[i] = d.answer;
         at = end;
-        i += 1;
     }
     track
 }
 
-// A whole run: a fresh start, then the parts of `samples` whose lengths are `cuts`, as many as `said` has places. Refused settings make no delivery.
+// A whole run: a fresh start, then the parts of `samples` whose lengths are `cuts`, as many as `said` has places. Refused settings make no delivery. It says the answer of the start, with the
+// track at the end.
 pub fn run(
     k: TrackSettings,
     samples: &[i16],
     cuts: &[usize],
     table: &mut [i32],
-    said: &mut [usize],
-) -> Ran
+    said: &mut [Result<usize, Refusal>],
+) -> Answered
     ensures table_after { run_outcome result said.new table.new
         ≡ run_call k table.old (deliveries k cuts.now samples.now (length said.old)) said.old }
     ensures ends_on_paper { EndsOnPaper k table.old (deliveries k cuts.now samples.now (length said.old)) said.new result table.new }
-    ensures answer_value { track_answer_numbers result.answer ≡ answer_numbers (start_no k) (pos 0 ∷ []) }
+    ensures answer_value { track_answer_numbers (told result.answer) ≡ answer_numbers (start_no k) (pos 0 ∷ []) }
 {
     let started = Track::start(k);
-    let answer = started.answer;
-    let track = started.track;
-    if answer_number(answer) != 0 {
-        return Ran { answer, track };
-    }
-    let n = lesser(said.len(), cuts.len());
-    let last = deliver_parts(track, samples, &cuts[..n], table, &mut said[..n]);
-    Ran {
-        answer,
-        track: last,
+    let Ok(_) = started.answer else {
+        return started;
+    };
+    let n = said.len().min(cuts.len());
+    let track = deliver_parts(started.track, samples, &cuts[..n], table, &mut said[..n]);
+    Answered {
+        answer: started.answer,
+        track,
     }
 }

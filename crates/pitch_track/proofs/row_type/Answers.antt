@@ -1,17 +1,14 @@
 -- `pitch_track::row_type` meets its contract: the test says which case of `row_type` holds.
-use mathlib.Core.Path.{sym, ap, ◌∙◌}
-use lib.IntN.{pos}
-use mir.Syntax.{w32}
-use mir.Val.{to_z, of_z}
+use Rattle.std.proofs.Common.{pos, w32, SFits, to_z, of_z, sym, ap, ◌∙◌, rules}
 use Rattle.zint.specs.EqualLaws.{eq_z_yes, eq_z_no}
-use Rattle.zint.specs.ReadLaws.{r_elem}
+use Rattle.zint.specs.ReadLaws.{r_var}
 use Rattle.pitch_track.proofs.row_type.Goals as goal
 
 pub returns-then-r-eq0 : goal.returns-then-r-eq0
 returns-then-r-eq0 c =
-    let r = c.args.r in
-    let e = sym (r_elem w32 r.verdict c.struct_told-1.given.0.1).val ∙ ap (to_z w32) c.if-r-eq0.true in
+    let f : SFits w32 c.args.r.verdict = search rules in
+    let e = sym (r_var f).val ∙ ap (to_z w32) c.if-r-eq0.true in
     rw (eq_z_yes e)
 
-pub returns : goal.returns
-returns c = rw (eq_z_no {y = pos 0} (λ k. c.if-r-eq0.false (ap (of_z w32) k)))
+pub returns-else-r-eq0 : goal.returns-else-r-eq0
+returns-else-r-eq0 c = rw (eq_z_no {y = pos 0} (λ k. c.if-r-eq0.false (ap (of_z w32) k)))

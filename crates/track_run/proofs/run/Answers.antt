@@ -1,49 +1,28 @@
 -- `track_run::run` meets its contract: with settings that are accepted it is the chain of the deliveries that have a place, and else the start alone.
-use borrow.Author.Rules.{rules}
-use mathlib.Core.Path.{◌≡◌, sym, ap, ◌∙◌}
-use mathlib.Core.List.{List}
-use Prim.Native.Nat.{ℕ, ◌≤◌, min}
-use native.Mathlib.Omega.{arith}
-use lib.IntN.{ℤ}
-use lib.ListN.{length, take}
-use lib.Seq.{length-take-le}
-use Rattle.pitch_track.specs.Step.{start_no, start_call}
-use Rattle.pitch_track.specs.declared.Started.{Started}
+use Rattle.std.specs.Prelude.{◌≡◌, Result, ℕ, min, List, ◌++◌, ℤ, length, take, drop}
+use Rattle.std.proofs.Common.{sym, ap, ◌∙◌, arith}
+use Rattle.std.proofs.lemmas.List.{take_min}
+use Rattle.refusals.specs.declared.Refusal.{Refusal}
+use Rattle.refusals.specs.Refusals.{told}
+use Rattle.refusals.specs.RefusalsLaws.{refused_positive}
 use Rattle.track_settings.specs.declared.TrackSettings.{TrackSettings}
 use Rattle.track_paper.specs.Paper.{answer_no}
+use Rattle.pitch_track.specs.declared.Track.{Track}
+use Rattle.pitch_track.specs.declared.Answered.{Answered}
+use Rattle.pitch_track.specs.Step.{Said, said as said_by, start_no, start_call}
 use Rattle.pitch_track.proofs.Deliver.{start_number}
-use Rattle.track_chain.specs.Chain.{Left, answer_nos, chain, run_from_start}
-use Rattle.track_run.specs.Run.{parts, deliveries}
-use Rattle.track_run.proofs.Ahead.{take_min, made_parts, length_made, ran, ends, refused}
+use Rattle.track_chain.specs.Chain.{Left, chain, run_from_start}
+use Rattle.track_run.specs.Run.{parts, deliveries, told_all, run_outcome, run_call, EndsOnPaper}
+use Rattle.track_run.proofs.Ahead.{made_parts, length_made, ran, ends, refused}
 use Rattle.track_run.proofs.run.Goals as goal
 
 -- the number that the start said
-number_is : (k : TrackSettings) (r : Started) {n : ℕ} → r ≡ start_call k → n ≡ answer_no r.answer → n ≡ start_no k
-number_is k r e f = f ∙ ap (λ (q : Started). answer_no q.answer) e ∙ start_number k
-
-pub start-started-requires : goal.start-started-requires
-start-started-requires c = search rules
-
-pub answer_number-requires : goal.answer_number-requires
-answer_number-requires c = search rules
-
-pub returns-then-answer_number-ne0 : goal.returns-then-answer_number-ne0
-returns-then-answer_number-ne0 c =
-    let a = c.args in
-    let o = c.start-started.ensures in
-    let e = o.value in
-    let n = number_is a.k c.start-started.result e c.answer_number.ensures in
-    let wrong : start_no a.k ≡ 0 → ⊥ = λ z. omega (arith, n, c.if-answer_number-ne0.true) in record {
-      table_after = refused a.k a.table.now a.cuts.now a.samples.now a.said.now wrong _ (ap (λ (r : Started). r.answer) e) (ap (λ (r : Started). r.track) e);
-      ends_on_paper = λ z. absurd (wrong z);
-      answer_value = o.answer_value;
-    }
-
-pub lesser-n-requires : goal.lesser-n-requires
-lesser-n-requires c = search rules
+number_is : (k : TrackSettings) (r : Answered) → said_by r ≡ start_call k → answer_no (told r.answer) ≡ start_no k
+number_is k r e = ap (λ (q : Said). answer_no q.answer) e ∙ start_number k
 
 -- the deliveries that are made: the first n cuts, of those that have a place
-module _ (k : TrackSettings) (table : List ℤ) (cuts : List ℕ) (samples : List ℤ) (said : List ℕ) (n : ℕ) (ok : start_no k ≡ 0) (e : n ≡ min (length said) (length cuts)) where
+module _ (k : TrackSettings) (table : List ℤ) (cuts : List ℕ) (samples : List ℤ) (said : List (Result ℕ Refusal)) (n : ℕ) (e : n ≡ min (length said) (length cuts)) (begun : Answered)
+    (value : said_by begun ≡ start_call k) (ok : start_no k ≡ 0) where
   all : n ≡ length (deliveries k cuts samples (length said))
   all = e ∙ sym (length_made k table cuts samples said ok)
 
@@ -53,38 +32,51 @@ module _ (k : TrackSettings) (table : List ℤ) (cuts : List ℕ) (samples : Lis
       ∙ sym (made_parts k table cuts samples said ok)
 
   -- the chain of them
-  chain_is : {r : Started} → r ≡ start_call k → chain r.track table (parts (take n cuts) samples) ≡ run_from_start k table (deliveries k cuts samples (length said))
-  chain_is s = λ i. chain (s i).track table (parts_are i)
+  chain_is : chain begun.track table (parts (take n cuts) samples) ≡ run_from_start k table (deliveries k cuts samples (length said))
+  chain_is = λ i. chain (value i).track table (parts_are i)
 
-pub slice_bounds-deliver_parts-end : goal.slice_bounds-deliver_parts-end
-slice_bounds-deliver_parts-end c = let h : c.lesser-n.result ≤ length c.args.cuts.now = omega (arith, c.lesser-n.ensures) in sym (length-take-le _ _ h)
+  module _ (last : Track) (front : List (Result ℕ Refusal)) (after : List ℤ)
+      (track : last ≡ (chain begun.track table (parts (take n cuts) samples)).track)
+      (answers : told_all front ≡ (chain begun.track table (parts (take n cuts) samples)).said)
+      (rows : after ≡ (chain begun.track table (parts (take n cuts) samples)).table) where
+    abbrev r : Answered
+    r = record { answer = begun.answer; track = last }
 
-pub slice_bounds-deliver_parts-end-2 : goal.slice_bounds-deliver_parts-end-2
-slice_bounds-deliver_parts-end-2 c = omega (arith, c.lesser-n.ensures)
+    outcome_is : run_outcome (record { answer = begun.answer; track = last }) (front ++ drop n said) after ≡ run_call k table (deliveries k cuts samples (length said)) said
+    outcome_is =
+        ran k table cuts samples said ok n all r front after (ap (λ (q : Said). q.answer) value)
+        (track ∙ ap (λ (l : Left). l.track) chain_is) (answers ∙ ap (λ (l : Left). l.said) chain_is) (rows ∙ ap (λ (l : Left). l.table) chain_is)
 
-pub slice_bounds-deliver_parts-end-3 : goal.slice_bounds-deliver_parts-end-3
-slice_bounds-deliver_parts-end-3 c = let h : c.lesser-n.result ≤ length c.args.said.now = omega (arith, c.lesser-n.ensures) in sym (length-take-le _ _ h)
+    on_paper : EndsOnPaper k table (deliveries k cuts samples (length said)) (front ++ drop n said) (record { answer = begun.answer; track = last }) after
+    on_paper =
+        ends k table cuts samples said ok n all r front after (ap (λ (q : Said). q.answer) value)
+        (track ∙ ap (λ (l : Left). l.track) chain_is) (answers ∙ ap (λ (l : Left). l.said) chain_is) (rows ∙ ap (λ (l : Left). l.table) chain_is)
 
-pub deliver_parts-last-requires : goal.deliver_parts-last-requires
-deliver_parts-last-requires c =
-    let h : c.lesser-n.result ≤ length c.args.said.now = omega (arith, c.lesser-n.ensures) in
-    let g : c.lesser-n.result ≤ length c.args.cuts.now = omega (arith, c.lesser-n.ensures) in
-    length-take-le _ _ h ∙ sym (length-take-le _ _ g)
-
-pub returns : goal.returns
-returns c =
+pub returns-in_default-clause-table_after : goal.returns-in_default-clause-table_after
+returns-in_default-clause-table_after c =
     let a = c.args in
-    let o = c.deliver_parts-last.ensures in
-    let begun = c.start-started.ensures in
-    let n = number_is a.k c.start-started.result begun.value c.answer_number.ensures in
-    let ok : start_no a.k ≡ 0 = omega (arith, n, c.if-answer_number-ne0.false) in
-    let e = ap (λ (r : Started). r.answer) begun.value in
-    let w = all a.k a.table.now a.cuts.now a.samples.now a.said.now c.lesser-n.result ok c.lesser-n.ensures in
-    let h = chain_is a.k a.table.now a.cuts.now a.samples.now a.said.now c.lesser-n.result ok c.lesser-n.ensures begun.value in
-    let track = o.value ∙ ap (λ (l : Left). l.track) h in
-    let numbers = o.said_after ∙ ap (λ (l : Left). answer_nos l.said) h in
-    let table = o.table_after ∙ ap (λ (l : Left). l.table) h in record {
-      table_after = ran a.k a.table.now a.cuts.now a.samples.now a.said.now ok c.lesser-n.result w _ _ _ e track numbers table;
-      ends_on_paper = ends a.k a.table.now a.cuts.now a.samples.now a.said.now ok c.lesser-n.result w _ _ _ e track numbers table;
-      answer_value = begun.answer_value;
-    }
+    let r = c.start-started.result in
+    let e = c.start-started.ensures.value in
+    let is = ap (λ (o : Result ℕ Refusal). answer_no (told o)) c.in_default.is in
+    let wrong = refused_positive c.in_default.field-0 (sym is ∙ number_is a.k r e) in
+    refused a.k a.table.now a.cuts.now a.samples.now a.said.now wrong r (ap (λ (q : Said). q.answer) e) (ap (λ (q : Said). q.track) e)
+
+pub returns-clause-table_after : goal.returns-clause-table_after
+returns-clause-table_after c =
+    let a = c.args in
+    let r = c.start-started.result in
+    let e = c.start-started.ensures.value in
+    let ok : start_no a.k ≡ 0 = sym (number_is a.k r e) ∙ ap (λ (o : Result ℕ Refusal). answer_no (told o)) c.in-Ok.is in
+    let n : c.min-n.result ≡ min (length a.said.now) (length a.cuts.now) = omega (arith, c.min-n.ensures) in
+    let o = c.deliver_parts-track in
+    outcome_is a.k a.table.now a.cuts.now a.samples.now a.said.now c.min-n.result n r e ok o.result o.new.said o.new.table o.ensures.value o.ensures.said_after o.ensures.table_after
+
+pub returns-clause-ends_on_paper : goal.returns-clause-ends_on_paper
+returns-clause-ends_on_paper c =
+    let a = c.args in
+    let r = c.start-started.result in
+    let e = c.start-started.ensures.value in
+    let ok : start_no a.k ≡ 0 = sym (number_is a.k r e) ∙ ap (λ (o : Result ℕ Refusal). answer_no (told o)) c.in-Ok.is in
+    let n : c.min-n.result ≡ min (length a.said.now) (length a.cuts.now) = omega (arith, c.min-n.ensures) in
+    let o = c.deliver_parts-track in
+    on_paper a.k a.table.now a.cuts.now a.samples.now a.said.now c.min-n.result n r e ok o.result o.new.said o.new.table o.ensures.value o.ensures.said_after o.ensures.table_after
