@@ -322,6 +322,14 @@ any_rest more = replicate more 0
 pub length-any_rest : (more : ℕ) → length (any_rest more) ≡ more
 length-any_rest more = length-replicate {0} {A = ℕ} more 0
 
+-- what is known of an input that is taken, whatever bytes follow; and its samples have room
+pub any_taken : (head : Head) (b : List ℕ) (x y : List ℤ) (r : Result Recording Refusal) (more : ℕ) (k : Recording)
+    → ((rest : List ℕ) → length rest ≡ more → take_outcome (told r) y ≡ take_call head (b ++ rest) x) → r ≡ Ok k → IsTaken head (b ++ any_rest more) x k.settings k.samples y
+any_taken head b x y r more k f e = is_taken _ _ _ _ _ (f (any_rest more) (length-any_rest more)) _ e
+
+pub taken_room : (head : Head) (b : List ℕ) (x y : List ℤ) (n : ℕ) (k : TrackSettings) → IsTaken head b x k n y → length y ≡ length x → recording_samples ≤ length x → n ≤ length y
+taken_room head b x y n k t e h = omega (arith, few_samples _ t.analysed n t.few)
+
 -- the outcome, from the number and the samples that were loaded
 pub refused_outcome : (head : Head) (b : List ℕ) (x : List ℤ) (n : ℕ) → n ≡ recording_no head b → (n ≡ 0 → ⊥) → take_outcome (Err n) x ≡ take_call head b x
 unfolding take_call recording_answer samples_after
