@@ -154,7 +154,7 @@ pub fn nth<T: Little>(bytes: &[u8], at: usize, i: usize) -> T
     T::at(bytes, skip(bytes, at, i.saturating_mul(T::SIZE)))
 }
 
-// Fills out with the numbers from `at` on.
+// Fills out with the numbers from `at` on. By index here and in `same`: the index gives the number's place too, and an iterator would be paired with its indices again, which is no plainer.
 pub fn load<T: Little>(bytes: &[u8], at: usize, out: &mut [T])
     ensures { out.new ≡ filled (numbers_at T.value_at T.SIZE bytes.now at) (length out.old) out.old }
 {
@@ -265,7 +265,7 @@ pub fn totals(tallies: &[Tally]) -> Tally
         .fold(Tally::none(), |sum, tally| sum.plus(*tally))
 }
 
-// A line for each kind, and one for all.
+// A line for each kind, and one for all. By index: a kind is its index, and the line names it.
 pub fn report<W: Write>(output: &mut W, tallies: &[Tally]) -> io::Result<()>
     ensures { OnOk result (Appends (W.contents output.old) (W.contents output.new) (report_text tallies.now)) }
 {

@@ -8,6 +8,7 @@ use borrow.Rule.Slice.PartMut.{put_mid}
 use lib.Seq.{take_at, drop_at, take-append-le, take-append-add}
 use Rattle.lists.specs.PushLaws.{take_overwritten}
 use Rattle.recording_io.specs.FilledLaws.{take_more}
+use Rattle.refusals.specs.Refusals.{number_told}
 use Rattle.frames_text.specs.declared.Line.{Line}
 use Rattle.frames_text.specs.Frames.{record_head, record_length, record_no, record_text, FramePrinted, frame_printed, frame_text_call}
 use Rattle.frames.specs.Output.{record_of, frames_output, RecordRead, LinePrinted, AllPrinted, FrontPrinted}
@@ -79,12 +80,11 @@ unfolding frames_output
 line_more n xs l e = rw (ne_eqb (length xs) 0 (λ z. omega arith), eq-eqb (record_no (record_of xs)) 0 e)
 
 -- what a call of `frame_text` leaves
-pub line_of : (line : Line) (after : List ℕ) (y : List ℤ) (b out : List ℕ) (x : List ℤ) → frame_printed line after y ≡ frame_text_call b out x → (take line.len after ≡ record_text b) × (line.number ≡ record_no b)
+pub line_of : (line : Line) (after : List ℕ) (y : List ℤ) (b out : List ℕ) (x : List ℤ) → frame_printed line after y ≡ frame_text_call b out x → (take line.len after ≡ record_text b) × (number_told line.answer ≡ record_no b)
 unfolding frame_text_call
 line_of line after y b out x e =
-    let said = ap (λ (p : FramePrinted). p.line) e in
-    let n : length (record_text b) ≡ line.len = sym (ap (λ (l : Line). l.len) said) in
-    (ap (take line.len) (ap (λ (p : FramePrinted). p.out) e) ∙ take_overwritten (record_text b) out line.len n, ap (λ (l : Line). l.number) said)
+    let n : length (record_text b) ≡ line.len = sym (ap (λ (p : FramePrinted). p.len) e) in
+    (ap (take line.len) (ap (λ (p : FramePrinted). p.out) e) ∙ take_overwritten (record_text b) out line.len n, ap (λ (p : FramePrinted). p.number) e)
 
 -- one record: none, a refused one and an accepted one
 pub printed_none : (a b o : Option (List ℕ)) (bytes : List ℕ) → IfSome a (λ xs. RecordRead xs bytes b) → length bytes ≡ 0 → IfSome a (λ xs. AllPrinted xs o o)

@@ -59,10 +59,9 @@ fn print_record<R: Read, W: Write, E: Write>(
     }
     let line = frame_text(&bytes[..n], samples, out);
     write_output(output, errors, b"frames", &out[..line.len])?;
-    if line.number == 0 {
-        Ok(Printed::More)
-    } else {
-        Ok(Printed::Last)
+    match line.answer {
+        Ok(()) => Ok(Printed::More),
+        Err(_) => Ok(Printed::Last),
     }
 }
 

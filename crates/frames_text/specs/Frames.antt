@@ -3,6 +3,7 @@
 use Rattle.std.specs.Prelude.{cond, List, ℕ, ◌+◌, ◌*◌, ltb, eqb, ℤ, length}
 use Rattle.lists.specs.Fill.{overwritten}
 use Rattle.sheet_bytes.specs.Bytes.{signed_at}
+use Rattle.refusals.specs.Refusals.{number_told}
 use Rattle.pitch_settings.specs.declared.Settings.{Settings}
 use Rattle.pitch_settings.specs.Settings.{settings_no, frame_length, longest_frame}
 use Rattle.pitch_table.specs.declared.Row.{Row}
@@ -49,12 +50,13 @@ record_text b = cond (eqb (record_no b) 0) (row_text (input_settings b).nb (reco
 
 -- the text's length with the refusal's number, and the lent lists at the end
 pub record FramePrinted : Type 0 where
-  pub line : Line
+  pub len : ℕ
+  pub number : ℕ
   pub out : List ℕ
   pub samples : List ℤ
 
 abbrev pub frame_printed : Line → List ℕ → List ℤ → FramePrinted
-frame_printed line out samples = record { line = line; out = out; samples = samples }
+frame_printed line out samples = record { len = line.len; number = number_told line.answer; out = out; samples = samples }
 
 -- the lent samples after the record b: its samples over their front; a refusal leaves them
 unfoldable pub frame_samples_after : List ℕ → List ℤ → List ℤ
@@ -62,4 +64,4 @@ frame_samples_after b samples = cond (eqb (record_no b) 0) (overwritten (record_
 
 -- what `frame_text` says and leaves of `out` and `samples` for the record b: the text over the front of `out`
 unfoldable pub frame_text_call : List ℕ → List ℕ → List ℤ → FramePrinted
-frame_text_call b out samples = frame_printed (record { len = length (record_text b); number = record_no b }) (overwritten (record_text b) out) (frame_samples_after b samples)
+frame_text_call b out samples = record { len = length (record_text b); number = record_no b; out = overwritten (record_text b) out; samples = frame_samples_after b samples }

@@ -1,13 +1,15 @@
 -- Laws of a record's text: the refusal's number by cases, what a record that is not refused has, its text, and the whole outcome.
-use Rattle.std.specs.Prelude.{◌≡◌, refl, Bool, true, false, cond, List, ℕ, ◌+◌, ◌*◌, ◌≤◌, ◌<◌, ltb, eqb, ℤ, length}
+use Rattle.std.specs.Prelude.{Result, Ok, Err, IsErr, ◌≡◌, refl, Bool, true, false, cond, List, ℕ, ◌+◌, ◌*◌, ◌≤◌, ◌<◌, ltb, eqb, ℤ, length}
 use Rattle.std.proofs.Common.{sym, arith}
-use borrow.Author.Tests.{lt-ltb, le-ltb, eq-eqb, ne_eqb, ltb-false, eqb-true, eqb-false}
+use borrow.Author.Tests.{lt-ltb, le-ltb, ne_eqb, ltb-false, eqb-true, eqb-false}
 use Rattle.lists.specs.Fill.{overwritten}
 use Rattle.pitch_settings.specs.declared.Settings.{Settings}
 use Rattle.pitch_settings.specs.Settings.{settings_no, frame_length}
 use Rattle.pitch_settings.specs.SettingsLaws.{accepted_settings}
 use Rattle.pitch_input.specs.Input.{input_settings}
-use Rattle.pitch_input.specs.InputLaws.{settings_small}
+use Rattle.refusals.specs.declared.Refusal.{Refusal}
+use Rattle.refusals.specs.Refusals.{refusal_number, number_told}
+use Rattle.refusals.specs.RefusalsLaws.{refused_positive}
 use Rattle.pitch_text.specs.Text.{row_text, refused_text}
 use Rattle.frames_text.specs.Frames.{record_head, longest_record, record_size, record_length, record_no, record_samples, record_row, record_text, frame_printed, frame_samples_after, frame_text_call}
 
@@ -29,13 +31,18 @@ module _ (b : List ℕ) where
   module _ (enough : record_head ≤ length b) where
     -- ---- refused settings
     module _ (w : ℕ) (e : w ≡ settings_no (input_settings b)) (wrong : w ≡ 0 → ⊥) where
-      pub no_wrong : w ≡ record_no b
+      no_wrong : w ≡ record_no b
       unfolding record_no
       no_wrong = rw (le-ltb (length b) record_head enough, ← e, ne_eqb w 0 wrong)
 
       pub length_wrong : length b ≡ record_length b
       unfolding record_length
       length_wrong = rw (le-ltb (length b) record_head enough, ← e, ne_eqb w 0 wrong)
+
+    -- as an answer gives it
+    pub no_refused : {A : Type 0} (w : Result A Refusal) → IsErr w → number_told w ≡ settings_no (input_settings b) → number_told w ≡ record_no b
+    no_refused (Err w) i e = no_wrong (refusal_number w) e (refused_positive w refl)
+    no_refused (Ok k) i e = cc
 
     -- ---- accepted ones
     module _ (known : settings_no (input_settings b) ≡ 0) where
@@ -50,17 +57,6 @@ module _ (b : List ℕ) where
       pub length_whole : record_size (input_settings b) ≡ record_length b
       unfolding record_length
       length_whole = rw (le-ltb (length b) record_head enough, known)
-
--- the number is small
-pub no_small : (b : List ℕ) → record_no b ≤ 10
-unfolding record_no
-no_small b = by (ltb (length b) record_head) (eqb (settings_no (input_settings b)) 0) (ltb (length b) (record_size (input_settings b))) (settings_small (input_settings b))
-  where
-    by : (x y z : Bool) → settings_no (input_settings b) ≤ 3 → cond x 10 (cond y (cond z 10 0) (settings_no (input_settings b))) ≤ 10
-    by true y z h = omega arith
-    by false true true h = omega arith
-    by false true false h = omega arith
-    by false false z h = omega arith
 
 -- a record that is not refused
 pub record Whole (b : List ℕ) : Type 0 where
@@ -87,13 +83,17 @@ pub text_row : (b : List ℕ) → 0 ≡ record_no b → row_text (input_settings
 unfolding record_text
 text_row b e = rw (← e)
 
--- ---- the whole outcome: the text that is laid over the front of `out`
-module _ (b out : List ℕ) (x : List ℤ) {len : ℕ} {after : List ℕ} (count : len ≡ length (record_text b)) (over : after ≡ overwritten (record_text b) out) (n : ℕ) (e : n ≡ record_no b) where
-  -- a refusal leaves the samples
-  pub outcome_refused : (n ≡ 0 → ⊥) → frame_printed (record { len = len; number = n }) after x ≡ frame_text_call b out x
-  unfolding frame_text_call frame_samples_after
-  outcome_refused h = rw (← e, ne_eqb n 0 h) (λ i. frame_printed (record { len = count i; number = n }) (over i) x)
+-- ---- the samples
+pub samples_stay : (b : List ℕ) (x : List ℤ) (n : ℕ) → n ≡ record_no b → (n ≡ 0 → ⊥) → x ≡ frame_samples_after b x
+unfolding frame_samples_after
+samples_stay b x n e h = rw (← e, ne_eqb n 0 h)
 
-  pub outcome_row : n ≡ 0 → {y : List ℤ} → y ≡ overwritten (record_samples b) x → frame_printed (record { len = len; number = n }) after y ≡ frame_text_call b out x
-  unfolding frame_text_call frame_samples_after
-  outcome_row z p = rw (← e, eq-eqb n 0 z) (λ i. frame_printed (record { len = count i; number = n }) (over i) (p i))
+pub samples_taken : (b : List ℕ) (x : List ℤ) → 0 ≡ record_no b → {y : List ℤ} → y ≡ overwritten (record_samples b) x → y ≡ frame_samples_after b x
+unfolding frame_samples_after
+samples_taken b x e p = rw (← e) p
+
+-- ---- the whole outcome: the text that is laid over the front of `out`
+pub outcome : (b out : List ℕ) (x : List ℤ) {len : ℕ} (answer : Result Unit Refusal) {after : List ℕ} {y : List ℤ} → len ≡ length (record_text b) → number_told answer ≡ record_no b → after ≡ overwritten (record_text b) out → y ≡ frame_samples_after b x
+    → frame_printed (record { len = len; answer = answer }) after y ≡ frame_text_call b out x
+unfolding frame_text_call
+outcome b out x answer count said over left = λ i. record { len = count i; number = said i; out = over i; samples = left i }

@@ -1,5 +1,5 @@
 -- A recording as a program's input (docs/SCOPE.md, Programs): what all bytes of an input say, how it is refused, and what a program that takes it leaves in each lent place. Definitions only.
-use Rattle.std.specs.Prelude.{Bool, ◌||◌, cond, List, ℕ, ◌+◌, ◌-◌, ◌*◌, ◌/◌, ◌%◌, ltb, eqb, ℤ, pos, length}
+use Rattle.std.specs.Prelude.{Result, Ok, Err, Bool, ◌||◌, cond, List, ℕ, ◌+◌, ◌-◌, ◌*◌, ◌/◌, ◌%◌, ltb, eqb, ℤ, pos, length}
 use Rattle.lists.specs.Fill.{overwritten}
 use Rattle.pitch_input.specs.Input.{samples_from}
 use Rattle.pitch_settings.specs.Settings.{longest_frame}
@@ -9,7 +9,6 @@ use Rattle.track_paper.specs.Paper.{F, paper_table}
 use Rattle.recording_head.specs.declared.Head.{Head}
 use Rattle.recording_head.specs.Head.{bytes_of_head, longest_head_size, head_settings, head_known}
 use Rattle.pitch_recording.specs.declared.Recording.{Recording}
-use Rattle.pitch_recording.specs.declared.Recording.TheVariants.{Taken, Refused}
 
 -- ---- sizes
 
@@ -54,19 +53,23 @@ recording_no head b =
 
 -- ---- the outcome of taking it
 
+-- the settings of the input b, and how many samples it has
+abbrev pub recording_of : Head → List ℕ → Recording
+recording_of head b = record { settings = head_settings head b; samples = length (samples_in head b) }
+
 -- what is said of the input b
-unfoldable pub recording_answer : Head → List ℕ → Recording
-recording_answer head b = cond (eqb (recording_no head b) 0) (Taken (head_settings head b) (length (samples_in head b))) (Refused (recording_no head b))
+unfoldable pub recording_answer : Head → List ℕ → Result Recording ℕ
+recording_answer head b = cond (eqb (recording_no head b) 0) (Ok (recording_of head b)) (Err (recording_no head b))
 
 -- the lent samples after the input b: its samples over their front; a refusal leaves them
 unfoldable pub samples_after : Head → List ℕ → List ℤ → List ℤ
 samples_after head b samples = cond (eqb (recording_no head b) 0) (overwritten (samples_in head b) samples) samples
 
 pub record TakeOutcome : Type 0 where
-  pub answer : Recording
+  pub answer : Result Recording ℕ
   pub samples : List ℤ
 
-abbrev pub take_outcome : Recording → List ℤ → TakeOutcome
+abbrev pub take_outcome : Result Recording ℕ → List ℤ → TakeOutcome
 take_outcome r x = record { answer = r; samples = x }
 
 -- what `take_recording` says of the input b and leaves of the lent samples

@@ -1,7 +1,7 @@
 -- Laws of the program's text: the settings and samples of an input's first bytes, the limit of the frames that a program takes, the refusal's number, the whole outcome, and the rows of a fresh track.
 use Rattle.std.proofs.Math.Path.{◌≡◌, refl, sym, ap}
 use Rattle.std.proofs.Common.{◌∙◌, subst, append-nil, arith, length-append}
-use Rattle.std.specs.Prelude.{Bool, ◌||◌, List, [], ◌∷◌, ◌++◌, ℕ, ◌+◌, ◌-◌, ◌*◌, ◌/◌, ◌%◌, ◌≤◌, ◌<◌, ltb, leb, ℤ, pos, take, replicate}
+use Rattle.std.specs.Prelude.{Result, Ok, Err, IsErr, Bool, ◌||◌, List, [], ◌∷◌, ◌++◌, ℕ, ◌+◌, ◌-◌, ◌*◌, ◌/◌, ◌%◌, ◌≤◌, ◌<◌, ltb, leb, ℤ, pos, take, replicate}
 use Rattle.std.proofs.Math.Bool.{true, false, cond}
 use Rattle.std.proofs.Math.Logic.{⊎_elim}
 use borrow.Author.Tests.{lt-ltb, le-ltb, le-leb, lt-leb, eq-eqb, ne_eqb, ltb-false, eqb-true, eqb-false}
@@ -22,12 +22,14 @@ use Rattle.track_settings.specs.TrackSettings.{stored_settings, second_no, track
 use Rattle.track_settings.specs.TrackSettingsLaws.{known}
 use Rattle.track_paper.specs.Paper.{F, paper_table}
 use Rattle.track_paper.specs.FramesLaws.{lt_or_le, fits, many}
+use Rattle.refusals.specs.declared.Refusal.{Refusal}
+use Rattle.refusals.specs.Refusals.{refusal_number, told, number_told}
+use Rattle.refusals.specs.RefusalsLaws.{refused_positive}
 use Rattle.recording_head.specs.declared.Head.{Head}
 use Rattle.recording_head.specs.Head.{bytes_of_head, head_settings, head_known}
 use Rattle.recording_head.specs.HeadLaws.{head_short, head_front, known_front}
 use Rattle.pitch_recording.specs.declared.Recording.{Recording}
-use Rattle.pitch_recording.specs.declared.Recording.TheVariants.{Taken, Refused}
-use Rattle.pitch_recording.specs.Recording.{program_frames, longest_hop, recording_samples, recording_bytes, samples_in, half_input, first_recording_refusal, recording_no, recording_answer, samples_after, TakeOutcome, take_outcome, take_call, recording_printed, table_after, printed_for}
+use Rattle.pitch_recording.specs.Recording.{program_frames, longest_hop, recording_samples, recording_bytes, samples_in, half_input, recording_of, first_recording_refusal, recording_no, recording_answer, samples_after, TakeOutcome, take_outcome, take_call, recording_printed, table_after, printed_for}
 
 -- ---- the limit
 pub hop_small : (s : Settings) → settings_no s ≡ 0 → hop_length s ≤ longest_hop
@@ -75,8 +77,9 @@ samples_over head b h = rw (samples_count head b) (omega (arith, head_short head
 
 -- ---- the refusal's number, from the first bytes b, the head's size and the count of those that follow
 module _ (head : Head) (b r : List ℕ) (size more : ℕ) (sized : size ≡ bytes_of_head head) (rest : length r ≡ more) (full : 0 < more → recording_bytes ≤ length b) where
-  abbrev odd : Bool
-  odd = eqb ((length b - size + more % 2) % 2) 1
+  -- 1 where there is an odd sample byte
+  abbrev odd : ℕ
+  odd = (length b - size + more % 2) % 2
 
   whole : length (b ++ r) ≡ length b + more
   whole = length-append b r ∙ ap (λ (n : ℕ). length b + n) rest
@@ -92,7 +95,7 @@ module _ (head : Head) (b r : List ℕ) (size more : ℕ) (sized : size ≡ byte
     there : bytes_of_head head ≤ length b
     there = omega arith
 
-    half_is : odd ≡ half_input head (b ++ r)
+    half_is : eqb odd 1 ≡ half_input head (b ++ r)
     unfolding half_input
     half_is =
         let l : bytes_of_head head ≤ length (b ++ r) = omega (arith, whole) in
@@ -102,27 +105,43 @@ module _ (head : Head) (b r : List ℕ) (size more : ℕ) (sized : size ≡ byte
     settings_is : track_settings_no (head_settings head b) (pos 0) ≡ track_settings_no (head_settings head (b ++ r)) (pos 0)
     settings_is = ap (λ (k : TrackSettings). track_settings_no k (pos 0)) (sym (head_front b r head there))
 
-    -- refused settings
-    pub no_wrong : (w : ℕ) → w ≡ track_settings_no (head_settings head b) (pos 0) → (w ≡ 0 → ⊥) → first_recording_refusal odd w false true ≡ recording_no head (b ++ r)
+    -- an odd sample byte
+    pub no_half : odd ≡ 1 → 10 ≡ recording_no head (b ++ r)
     unfolding recording_no first_recording_refusal
-    no_wrong w e h = rw (half_is, ← settings_is, ← e, ne_eqb w 0 h)
+    no_half h = rw (sym half_is ∙ eq-eqb odd 1 h)
 
-    -- more bytes than are at hand: too many frames
-    pub no_more : track_settings_no (head_settings head b) (pos 0) ≡ 0 → 0 < more → first_recording_refusal odd 0 true true ≡ recording_no head (b ++ r)
-    unfolding recording_no first_recording_refusal
-    no_more e h =
-        let k = sym settings_is ∙ e in
-        let n = samples_over head (b ++ r) (omega (arith, whole, full h)) in
-        rw (half_is, k, lt-ltb program_frames _ (too_many (stored_settings (head_settings head (b ++ r))) (known _ (pos 0) k) (length (samples_in head (b ++ r))) n))
+    module _ (even : odd ≡ 1 → ⊥) where
+      not_half_here : half_input head (b ++ r) ≡ false
+      not_half_here = sym half_is ∙ ne_eqb odd 1 even
 
-    -- all bytes at hand
-    pub no_all : track_settings_no (head_settings head b) (pos 0) ≡ 0 → more ≤ 0
-        → first_recording_refusal odd 0 (ltb program_frames (F (stored_settings (head_settings head b)) ((length b - size) / 2))) (head_known head b) ≡ recording_no head (b ++ r)
-    unfolding recording_no
-    no_all e h =
-        let k = sym settings_is ∙ e in
-        let n : (length b - size) / 2 ≡ length (samples_in head (b ++ r)) = omega (arith, samples_count head (b ++ r), whole) in
-        rw (half_is, k, ← head_front b r head there, ← known_front b r head there, n)
+      -- refused settings
+      no_wrong : (w : ℕ) → w ≡ track_settings_no (head_settings head b) (pos 0) → (w ≡ 0 → ⊥) → w ≡ recording_no head (b ++ r)
+      unfolding recording_no first_recording_refusal
+      no_wrong w e h = rw (not_half_here, ← settings_is, ← e, ne_eqb w 0 h)
+
+      -- as an answer gives it
+      pub no_refused : {A : Type 0} (w : Result A Refusal) → IsErr w → number_told w ≡ track_settings_no (head_settings head b) (pos 0) → number_told w ≡ recording_no head (b ++ r)
+      no_refused (Err w) i e = no_wrong (refusal_number w) e (refused_positive w refl)
+      no_refused (Ok k) i e = cc
+
+      module _ (e : track_settings_no (head_settings head b) (pos 0) ≡ 0) where
+        right : track_settings_no (head_settings head (b ++ r)) (pos 0) ≡ 0
+        right = sym settings_is ∙ e
+
+        -- more bytes than are at hand: too many frames
+        pub no_more : 0 < more → 6 ≡ recording_no head (b ++ r)
+        unfolding recording_no first_recording_refusal
+        no_more h =
+            let n = samples_over head (b ++ r) (omega (arith, whole, full h)) in
+            rw (not_half_here, right, lt-ltb program_frames _ (too_many (stored_settings (head_settings head (b ++ r))) (known _ (pos 0) right) (length (samples_in head (b ++ r))) n))
+
+        -- all bytes at hand
+        pub no_all : more ≤ 0
+            → first_recording_refusal false 0 (ltb program_frames (F (stored_settings (head_settings head b)) ((length b - size) / 2))) (head_known head b) ≡ recording_no head (b ++ r)
+        unfolding recording_no
+        no_all h =
+            let n : (length b - size) / 2 ≡ length (samples_in head (b ++ r)) = omega (arith, samples_count head (b ++ r), whole) in
+            rw (not_half_here, right, ← head_front b r head there, ← known_front b r head there, n)
 
 -- no refusal: none of the four
 first_none : (half : Bool) (wrong : ℕ) (long known : Bool) → 0 ≡ first_recording_refusal half wrong long known → (half ≡ false) × (wrong ≡ 0) × (long ≡ false)
@@ -251,8 +270,8 @@ settings_taken : (head : Head) (b : List ℕ) → 0 ≡ recording_no head b → 
 unfolding recording_no
 settings_taken head b e = (first_none _ _ _ _ e).1
 
-module _ (head : Head) (b : List ℕ) (before samples : List ℤ) (r : Recording) (e : take_outcome r samples ≡ take_call head b before) where
-  answer_is : r ≡ recording_answer head b
+module _ (head : Head) (b : List ℕ) (before samples : List ℤ) (r : Result Recording Refusal) (e : take_outcome (told r) samples ≡ take_call head b before) where
+  answer_is : told r ≡ recording_answer head b
   unfolding take_call
   answer_is = ap (λ (o : TakeOutcome). o.answer) e
 
@@ -260,40 +279,41 @@ module _ (head : Head) (b : List ℕ) (before samples : List ℤ) (r : Recording
   unfolding take_call
   left_is = ap (λ (o : TakeOutcome). o.samples) e
 
-  pub is_taken : (k : TrackSettings) (n : ℕ) → r ≡ Taken k n → IsTaken head b before k n samples
+  pub is_taken : (k : Recording) → r ≡ Ok k → IsTaken head b before k.settings k.samples samples
   unfolding recording_answer samples_after
-  is_taken k n g = by (eqb (recording_no head b) 0) refl answer_is left_is
+  is_taken k g = by (eqb (recording_no head b) 0) refl (sym (ap told g) ∙ answer_is) left_is
     where
-      by : (q : Bool) → eqb (recording_no head b) 0 ≡ q → r ≡ cond q (Taken (head_settings head b) (length (samples_in head b))) (Refused (recording_no head b)) → samples ≡ cond q (overwritten (samples_in head b) before) before
-          → IsTaken head b before k n samples
+      by : (q : Bool) → eqb (recording_no head b) 0 ≡ q → Ok k ≡ cond q (Ok (recording_of head b)) (Err (recording_no head b))
+          → samples ≡ cond q (overwritten (samples_in head b) before) before → IsTaken head b before k.settings k.samples samples
       by true p a y =
           let z = eqb-true (recording_no head b) 0 p in
           let q = ready head b (sym z) in
-          let ek : k ≡ head_settings head b = cc in
-          let en : n ≡ length (samples_in head b) = cc in
+          let whole : k ≡ recording_of head b = cc in
+          let ek : k.settings ≡ head_settings head b = ap (λ (t : Recording). t.settings) whole in
+          let en : k.samples ≡ length (samples_in head b) = ap (λ (t : Recording). t.samples) whole in
           let ok = ap (λ (t : TrackSettings). track_settings_no t (pos 0)) ek ∙ settings_taken head b (sym z) in
           record {
             no_refusal = z;
             settings_are = ek;
             samples_are = y;
-            front = ap (take n) y ∙ take_overwritten (samples_in head b) before n (sym en);
+            front = ap (take k.samples) y ∙ take_overwritten (samples_in head b) before k.samples (sym en);
             accepted = ok;
-            analysed = known k (pos 0) ok;
+            analysed = known k.settings (pos 0) ok;
             few = rw (ek, en) q.few;
             count = en;
           }
       by false p a y = let z : ◌≡◌ {A = ℕ} 0 1 = cc in absurd (omega arith)
 
-  pub is_refused : (n : ℕ) → r ≡ Refused n → IsRefused head b before n samples
+  pub is_refused : (n : Refusal) → r ≡ Err n → IsRefused head b before (refusal_number n) samples
   unfolding recording_answer samples_after
-  is_refused n g = by (eqb (recording_no head b) 0) refl answer_is left_is
+  is_refused n g = by (eqb (recording_no head b) 0) refl (sym (ap told g) ∙ answer_is) left_is
     where
-      by : (q : Bool) → eqb (recording_no head b) 0 ≡ q → r ≡ cond q (Taken (head_settings head b) (length (samples_in head b))) (Refused (recording_no head b)) → samples ≡ cond q (overwritten (samples_in head b) before) before
-          → IsRefused head b before n samples
+      by : (q : Bool) → eqb (recording_no head b) 0 ≡ q → Err (refusal_number n) ≡ cond q (Ok (recording_of head b)) (Err (recording_no head b))
+          → samples ≡ cond q (overwritten (samples_in head b) before) before → IsRefused head b before (refusal_number n) samples
       by true p a y = let z : ◌≡◌ {A = ℕ} 0 1 = cc in absurd (omega arith)
       by false p a y =
-          let k : n ≡ recording_no head b = cc in
-          record { number_is = k; some_number = λ z. eqb-false (recording_no head b) 0 p (sym k ∙ z); small = omega (arith, k, no_small head b); samples_stay = y }
+          let k : refusal_number n ≡ recording_no head b = cc in
+          record { number_is = k; some_number = refused_positive n refl; small = omega (arith, k, no_small head b); samples_stay = y }
 
 -- bytes that may follow
 abbrev pub any_rest : ℕ → List ℕ
@@ -302,12 +322,25 @@ any_rest more = replicate more 0
 pub length-any_rest : (more : ℕ) → length (any_rest more) ≡ more
 length-any_rest more = length-replicate {0} {A = ℕ} more 0
 
+-- what is known of an input that is taken, whatever bytes follow; and its samples have room
+pub any_taken : (head : Head) (b : List ℕ) (x y : List ℤ) (r : Result Recording Refusal) (more : ℕ) (k : Recording)
+    → ((rest : List ℕ) → length rest ≡ more → take_outcome (told r) y ≡ take_call head (b ++ rest) x) → r ≡ Ok k → IsTaken head (b ++ any_rest more) x k.settings k.samples y
+any_taken head b x y r more k f e = is_taken _ _ _ _ _ (f (any_rest more) (length-any_rest more)) _ e
+
+pub taken_room : (head : Head) (b : List ℕ) (x y : List ℤ) (n : ℕ) (k : TrackSettings) → IsTaken head b x k n y → length y ≡ length x → recording_samples ≤ length x → n ≤ length y
+taken_room head b x y n k t e h = omega (arith, few_samples _ t.analysed n t.few)
+
 -- the outcome, from the number and the samples that were loaded
-pub refused_outcome : (head : Head) (b : List ℕ) (x : List ℤ) (n : ℕ) → n ≡ recording_no head b → (n ≡ 0 → ⊥) → take_outcome (Refused n) x ≡ take_call head b x
+pub refused_outcome : (head : Head) (b : List ℕ) (x : List ℤ) (n : ℕ) → n ≡ recording_no head b → (n ≡ 0 → ⊥) → take_outcome (Err n) x ≡ take_call head b x
 unfolding take_call recording_answer samples_after
 refused_outcome head b x n e h = rw (← e, ne_eqb n 0 h)
 
+-- of an answer that is a refusal
+pub refused_answer : (head : Head) (b : List ℕ) (x : List ℤ) (r : Result Recording Refusal) → IsErr r → number_told r ≡ recording_no head b → take_outcome (told r) x ≡ take_call head b x
+refused_answer head b x (Err n) i e = refused_outcome head b x (refusal_number n) e (refused_positive n refl)
+refused_answer head b x (Ok k) i e = cc
+
 pub taken_outcome : (head : Head) (b : List ℕ) (x y : List ℤ) (k : TrackSettings) (n : ℕ) → recording_no head b ≡ 0 → k ≡ head_settings head b → n ≡ length (samples_in head b) → y ≡ overwritten (samples_in head b) x
-    → take_outcome (Taken k n) y ≡ take_call head b x
+    → take_outcome (Ok (record { settings = k; samples = n })) y ≡ take_call head b x
 unfolding take_call recording_answer samples_after
-taken_outcome head b x y k n z ek en ey = rw (eq-eqb (recording_no head b) 0 z) (λ i. take_outcome (Taken (ek i) (en i)) (ey i))
+taken_outcome head b x y k n z ek en ey = rw (eq-eqb (recording_no head b) 0 z) (λ i. take_outcome (Ok (record { settings = ek i; samples = en i })) (ey i))

@@ -1,4 +1,4 @@
--- Laws of text: one part after another (the laws of `Put`, passed on), one field more, and how long a number is.
+-- Laws of text: one part after another (the laws of `Put`, passed on), one field more, how long a number is, and how large a refusal's.
 use Rattle.std.specs.Prelude.{◌≡◌, refl, List, [], ◌∷◌, ◌++◌, ℕ, zero, suc, ◌+◌, ◌≤◌, ◌<◌, true, false, ℤ, pos, negsuc, nat_abs, length, get_or, take, drop}
 use Rattle.std.proofs.Common.{sym, ap, ap₂, ◌∙◌, append_assoc, append-nil, add-one, arith, ltb-true, take-suc, SFits}
 use Rattle.std.proofs.lemmas.Bool.{false≢true}
@@ -9,6 +9,9 @@ use Rattle.lists.specs.Fill.{overwritten}
 pub use Rattle.lists.specs.PutLaws.{put_then, put_as, put_end, put_one as put_byte, put_next, put_none, put_front}
 use Rattle.pitch_text.specs.Decimal.{digits, decimal}
 use Rattle.pitch_text.specs.DecimalLaws.{digits_few}
+use Rattle.refusals.specs.declared.Refusal.{Refusal}
+use Rattle.refusals.specs.declared.Refusal.TheVariants.{Rate, Subframes, Complexity, ShortFrame, ShortSlots, LongTrack, ShortTable, ShortPage, Malformed, HalfInput, ThresholdRange}
+use Rattle.refusals.specs.Refusals.{refusal_number}
 use Rattle.pitch_table.specs.declared.Row.{Row}
 use Rattle.pitch_text.specs.Text.{Put, fields, values_of, line_text, lines_text}
 
@@ -71,3 +74,17 @@ pub decimal_plus : (z : ℤ) → lt_z z (pos 0) ≡ false → decimal z ≡ digi
 unfolding decimal
 decimal_plus (pos n) e = refl
 decimal_plus (negsuc n) e = absurd (false≢true (sym e))
+
+-- a refusal's number has two digits at most
+pub refusal_small : (r : Refusal) → refusal_number r ≤ 11
+refusal_small Rate = omega arith
+refusal_small Subframes = omega arith
+refusal_small Complexity = omega arith
+refusal_small ShortFrame = omega arith
+refusal_small ShortSlots = omega arith
+refusal_small LongTrack = omega arith
+refusal_small ShortTable = omega arith
+refusal_small ShortPage = omega arith
+refusal_small Malformed = omega arith
+refusal_small HalfInput = omega arith
+refusal_small ThresholdRange = omega arith

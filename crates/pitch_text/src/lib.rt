@@ -1,12 +1,15 @@
 // Text: decimal numbers and lines as bytes, written at a place of a buffer.
+// Each function takes the place at which it writes and answers the place after its text: nothing here allocates, and `write!` answers a Result of which no clause promises that it is Ok.
 #![tactic(auto)]
 
 ghost use Rattle.std.specs.Prelude.{◌≡◌, ◌+◌, ◌*◌, ◌≤◌, length, take};
+ghost use Rattle.refusals.specs.Refusals.{refusal_number};
 ghost use Rattle.pitch_table.specs.Row.{row_size, most_frames, row_at};
 ghost use Rattle.pitch_text.specs.Decimal.{digits, decimal};
 ghost use Rattle.pitch_text.specs.Text.{field_bytes, row_text_bytes, line_bytes, refused_bytes, fields, letter_of, values_of, row_text, line_text, lines_text, refused_text, Put};
 
 use pitch_table::{Row, get_row};
+use refusals::Refusal;
 use silk_macros::abs_u32;
 
 // The bytes of an unsigned number of 32 bits at most.
@@ -42,7 +45,7 @@ pub fn put_number(out: &mut [u8], at: usize, z: i32) -> usize
     ensures { Put out.old at (decimal z) result out.new }
 {
     if z < 0 {
-        out[at] = 45;
+        out[at] = b'-';
         put_digits(out, at + 1, abs_u32(z))
     } else {
         put_digits(out, at, abs_u32(z))
@@ -55,11 +58,9 @@ pub fn put_fields(out: &mut [u8], at: usize, values: &[i32], n: usize) -> usize
     ensures { Put out.old at (fields (take n values.now)) result out.new × (result ≤ at + field_bytes * n) }
 {
     let mut p = at;
-    let mut k = 0;
-    while k < n {
-        out[p] = 32;
+    for k in 0..n {
+        out[p] = b' ';
         p = put_number(out, p + 1, values[k]);
-        k += 1;
     }
     p
 }
@@ -68,27 +69,26 @@ pub fn put_fields(out: &mut [u8], at: usize, values: &[i32], n: usize) -> usize
 fn letter(verdict: i32) -> u8
     ensures { result ≡ letter_of verdict }
 {
-    if verdict == 0 {
-        return b'V';
+    match verdict {
+        0 => b'V',
+        1 => b'U',
+        _ => b'Z',
     }
-    if verdict == 1 {
-        return b'U';
-    }
-    b'Z'
 }
 
 // A row's numbers after its verdict.
 fn row_values(r: Row) -> [i32; 7]
     ensures { result ≡ values_of r }
 {
-    let index = r.index;
-    let contour = r.contour;
-    let correlation = r.correlation;
-    let lag0 = r.lag0;
-    let lag1 = r.lag1;
-    let lag2 = r.lag2;
-    let lag3 = r.lag3;
-    [index, contour, correlation, lag0, lag1, lag2, lag3]
+    [
+        r.index,
+        r.contour,
+        r.correlation,
+        r.lag0,
+        r.lag1,
+        r.lag2,
+        r.lag3,
+    ]
 }
 
 // A row as a line, with the lags of nb subframes.
@@ -119,29 +119,20 @@ pub fn put_lines(out: &mut [u8], at: usize, nb: usize, table: &[i32], n: usize) 
     ensures { Put out.old at (lines_text nb (row_at table.now) n) result out.new × (result ≤ at + line_bytes * n) }
 {
     let mut p = at;
-    let mut i = 0;
-    while i < n {
+    for i in 0..n {
         let r = get_row(table, i);
         p = put_line(out, p, i as u32, nb, r);
-        i += 1;
     }
     p
 }
 
-// `refused` and a number.
-pub fn put_refused(out: &mut [u8], at: usize, n: u32) -> usize
+// `refused` and the refusal's number.
+pub fn put_refused(out: &mut [u8], at: usize, refusal: Refusal) -> usize
     requires { at + refused_bytes ≤ length out.old }
-    ensures { Put out.old at (refused_text n) result out.new × (result ≤ at + refused_bytes) }
+    ensures { Put out.old at (refused_text (refusal_number refusal)) result out.new × (result ≤ at + refused_bytes) }
 {
-    out[at] = b'r';
-    out[at + 1] = b'e';
-    out[at + 2] = b'f';
-    out[at + 3] = b'u';
-    out[at + 4] = b's';
-    out[at + 5] = b'e';
-    out[at + 6] = b'd';
-    out[at + 7] = b' ';
-    let last = put_digits(out, at + 8, n);
+    out[at..at + 8].copy_from_slice(b"refused ");
+    let last = put_digits(out, at + 8, refusal.number() as u32);
     out[last] = b'\n';
     last + 1
 }

@@ -6,7 +6,7 @@ ghost use Rattle.recording_head.specs.Head.{options_size, bytes_of_head, kind_of
 
 use pitch_input::{HEAD_SIZE, sample_at, settings_in};
 use sheet_bytes::i32_at;
-use track_settings::{SecondThreshold, Speech, TrackSettings, fixed_settings};
+use track_settings::{SecondThreshold, Speech, TrackSettings};
 
 // The head with which an input begins.
 #[derive(Clone, Copy)]
@@ -102,7 +102,7 @@ pub fn head_settings(head: Head, bytes: &[u8]) -> TrackSettings
     ensures { result ≡ head_settings head bytes.now }
 {
     match head {
-        Head::Plain => fixed_settings(settings_in(bytes)),
+        Head::Plain => TrackSettings::from(settings_in(bytes)),
         Head::Options => options_settings(bytes),
     }
 }

@@ -1,14 +1,13 @@
 -- Laws of the program's text: a page that is longer than the longest sheet is none, what a reading finds is what the text tells, and the whole outcome.
-use Rattle.std.specs.Prelude.{◌≡◌, refl, Bool, true, false, ltb, ℤ, length, drop}
+use Rattle.std.specs.Prelude.{Result, Ok, Err, ◌≡◌, refl, Bool, true, false, ltb, ℤ, length, drop}
 use Rattle.std.proofs.Math.Path.{ap}
-use Rattle.std.proofs.Common.{◌∙◌, ltb-true, ltb-false, length-append}
+use Rattle.std.proofs.Common.{sym, ◌∙◌, ltb-true, ltb-false, length-append}
 use mathlib.Core.List.{List, [], ◌∷◌, ◌++◌, append-nil}
 use Prim.Native.Nat.{ℕ, ◌*◌, ◌≤◌, ◌<◌}
 use native.Mathlib.Omega.{arith}
 use Rattle.lists.specs.FillLaws.{length_tabulate, get_d_tabulate}
 use Rattle.lists.specs.Fill.{overwritten}
 use Rattle.pitch_settings.specs.declared.Settings.{Settings}
-use Rattle.pitch_settings.specs.Settings.{held_no}
 use Rattle.pitch_table.specs.declared.Row.{Row}
 use Rattle.pitch_table.specs.Row.{row_size, most_frames, row_at}
 use Rattle.pitch_text.specs.Text.{refused_text}
@@ -16,8 +15,6 @@ use Rattle.pitch_text.specs.TextLaws.{lines_same}
 use Rattle.sheet_sections.specs.Sheet.{sheet_length}
 use Rattle.sheet_page.specs.Page.{sheet_settings, frames_in, row_in, row_found, well_formed, page_no, rows_in, numbers_of}
 use Rattle.sheet_page.specs.PageLaws.{good, voiced_in_le}
-use Rattle.pitch_sheet.specs.declared.Got.{Got}
-use Rattle.pitch_sheet.specs.declared.Got.TheVariants.{Read, Refused as NotRead}
 use Rattle.pitch_sheet.specs.Calls.{got, read_call, ReadOutcome}
 use Rattle.pitch_sheet.specs.CallsLaws.{sheet_page, read_malformed, read_done}
 use Rattle.pitch_sheet.specs.Holds.{no_row}
@@ -75,15 +72,15 @@ pub record Refused (p : List ℕ) (t : List ℤ) (number : ℕ) (after : List �
 
 module _ (p : List ℕ) (t : List ℤ) (room : most_frames * row_size ≤ length t) where
   -- 7 is never said
-  sound_read : well_formed p ≡ true → read_call p t ≡ got (Read (sheet_settings p) (frames_in p)) (numbers_of (rows_in p) ++ drop (frames_in p * row_size) t)
+  sound_read : well_formed p ≡ true → read_call p t ≡ got (Ok (sheet_settings p, frames_in p)) (numbers_of (rows_in p) ++ drop (frames_in p * row_size) t)
   sound_read e = read_done p t (sheet_page p e) (omega (arith, (good p e).head.few))
 
-  bad_read : well_formed p ≡ false → read_call p t ≡ got (NotRead 9) t
+  bad_read : well_formed p ≡ false → read_call p t ≡ got (Err 9) t
   unfolding page_no
   bad_read e =
       let n : page_no p ≡ 9 = rw e in
       let m : page_no p ≡ 0 → ⊥ = λ z. omega arith in
-      read_malformed p t m ∙ ap (λ (k : ℕ). got (NotRead k) t) n
+      read_malformed p t m ∙ ap (λ (k : ℕ). got (Err k) t) n
 
   row_read : (i : ℕ) → i < frames_in p → row_at (numbers_of (rows_in p) ++ drop (frames_in p * row_size) t) i ≡ row_found (row_in p i)
   unfolding rows_in
@@ -95,39 +92,43 @@ module _ (p : List ℕ) (t : List ℤ) (room : most_frames * row_size ≤ length
   unfolding sheet_table_after
   table_read e = rw e
 
-  module _ {r : Got} {after : List ℤ} (e : got r after ≡ read_call p t) where
-    pub found : {s : Settings} {frames : ℕ} → r ≡ Read s frames → Found p t s frames after
+  module _ {r : Result (Settings × ℕ) ℕ} {after : List ℤ} (e : got r after ≡ read_call p t) where
+    pub found : {s : Settings} {frames : ℕ} → r ≡ Ok (s, frames) → Found p t s frames after
     found {s} {frames} g = by (well_formed p) refl
       where
         by : (b : Bool) → well_formed p ≡ b → Found p t s frames after
         by true h =
             let o = e ∙ sound_read h in
-            let q = ap (λ (x : ReadOutcome). x.answer) o in
-            let k : frames ≡ frames_in p = cc in
-            record { sound = h; settings = cc; count = k; rows = λ i l. ap (λ (x : ReadOutcome). row_at x.table i) o ∙ row_read i (omega arith); left = ap (λ (x : ReadOutcome). x.table) o ∙ table_read h }
+            let q = sym g ∙ ap (λ (x : ReadOutcome). x.answer) o in
+            let both : ◌≡◌ {A = Settings × ℕ} (s, frames) (sheet_settings p, frames_in p) = cc in
+            let k : frames ≡ frames_in p = ap (λ (x : Settings × ℕ). x.1) both in
+            record {
+              sound = h;
+              settings = ap (λ (x : Settings × ℕ). x.0) both;
+              count = k;
+              rows = λ i l. ap (λ (x : ReadOutcome). row_at x.table i) o ∙ row_read i (omega arith);
+              left = ap (λ (x : ReadOutcome). x.table) o ∙ table_read h;
+            }
         by false h =
-            let q = ap (λ (x : ReadOutcome). x.answer) (e ∙ bad_read h) in
+            let q = sym g ∙ ap (λ (x : ReadOutcome). x.answer) (e ∙ bad_read h) in
             let z : ◌≡◌ {A = ℕ} 0 1 = cc in
             absurd (omega arith)
 
-    pub refused : {number : ℕ} → r ≡ NotRead number → Refused p t number after
+    pub refused : {number : ℕ} → r ≡ Err number → Refused p t number after
     refused {number} g = by (well_formed p) refl
       where
         by : (b : Bool) → well_formed p ≡ b → Refused p t number after
         by true h =
-            let q = ap (λ (x : ReadOutcome). x.answer) (e ∙ sound_read h) in
+            let q = sym g ∙ ap (λ (x : ReadOutcome). x.answer) (e ∙ sound_read h) in
             let z : ◌≡◌ {A = ℕ} 0 1 = cc in
             absurd (omega arith)
         by false h =
             let o = e ∙ bad_read h in
-            let q = ap (λ (x : ReadOutcome). x.answer) o in
+            let q = sym g ∙ ap (λ (x : ReadOutcome). x.answer) o in
             record { bad = h; nine = cc; left = ap (λ (x : ReadOutcome). x.table) o ∙ table_kept p t h }
 
 -- ---- the text of what was read
 module _ {p : List ℕ} {t : List ℤ} {s : Settings} {frames : ℕ} {after : List ℤ} (f : Found p t s frames after) where
-  pub settings_known : held_no s ≡ 0
-  settings_known = ap held_no f.settings ∙ (good p f.sound).head.settings
-
   pub few_frames : frames ≤ most_frames
   few_frames = omega (arith, f.count, (good p f.sound).head.few)
 

@@ -2,18 +2,18 @@
 #![tactic(auto)]
 
 ghost use Rattle.std.specs.Prelude.{◌≡◌, true, List, ◌++◌, ℕ, ◌*◌, ◌≤◌, ltb, length};
-ghost use Rattle.pitch_settings.specs.Settings.{held_no};
 ghost use Rattle.pitch_table.specs.Row.{row_size, most_frames, row_at};
 ghost use Rattle.pitch_text.specs.Text.{Put};
 ghost use Rattle.sheet_sections.specs.Sheet.{sheet_length};
 ghost use Rattle.sheet_text.specs.Program.{sheet_head_bytes, sheet_text_bytes, sheet_head, sheet_report, sheet_printed, sheet_text_call};
 
-use pitch_settings::Settings;
-use pitch_sheet::{Got, read_sheet};
+use pitch_settings::Held;
+use pitch_sheet::read_sheet;
 use pitch_table::MOST_FRAMES;
 use pitch_text::{
     DIGITS_BYTES, FIELD_BYTES, LINE_BYTES, put_digits, put_fields, put_lines, put_refused,
 };
+use refusals::Refusal;
 use sheet_sections::{SETTINGS_COUNT, setting_numbers};
 
 // The bytes of a sheet's text at most: the first line, and a line for each frame.
@@ -23,13 +23,13 @@ pub const SHEET_TEXT_BYTES: usize = DIGITS_BYTES
     + LINE_BYTES * MOST_FRAMES;
 
 // Settings and frame count.
-fn put_head(out: &mut [u8], s: Settings, frames: usize) -> usize
-    requires { (held_no s ≡ 0) × (frames ≤ most_frames) × (sheet_head_bytes ≤ length out.old) }
-    ensures { Put out.old 0 (sheet_head s frames) result out.new × (result ≤ sheet_head_bytes) }
+fn put_head(out: &mut [u8], settings: Held, frames: usize) -> usize
+    requires { (frames ≤ most_frames) × (sheet_head_bytes ≤ length out.old) }
+    ensures { Put out.old 0 (sheet_head settings.settings frames) result out.new × (result ≤ sheet_head_bytes) }
 {
-    let numbers = setting_numbers(s);
+    let numbers = setting_numbers(settings);
     let count = [frames as i32];
-    let p = put_digits(out, 0, s.rate as u32);
+    let p = put_digits(out, 0, settings.settings.rate as u32);
     let p = put_fields(out, p, &numbers[1..], SETTINGS_COUNT - 1);
     let p = put_fields(out, p, &count, 1);
     out[p] = b'\n';
@@ -37,12 +37,12 @@ fn put_head(out: &mut [u8], s: Settings, frames: usize) -> usize
 }
 
 // The text for the first rows of the table.
-fn put_report(out: &mut [u8], s: Settings, table: &[i32], frames: usize) -> usize
-    requires { (held_no s ≡ 0) × (frames ≤ most_frames) × (frames * row_size ≤ length table.now) × (sheet_text_bytes ≤ length out.old) }
-    ensures { Put out.old 0 (sheet_report s (row_at table.now) frames) result out.new × (result ≤ sheet_text_bytes) }
+fn put_report(out: &mut [u8], settings: Held, table: &[i32], frames: usize) -> usize
+    requires { (frames ≤ most_frames) × (frames * row_size ≤ length table.now) × (sheet_text_bytes ≤ length out.old) }
+    ensures { Put out.old 0 (sheet_report settings.settings (row_at table.now) frames) result out.new × (result ≤ sheet_text_bytes) }
 {
-    let p = put_head(out, s, frames);
-    put_lines(out, p, s.nb, table, frames)
+    let p = put_head(out, settings, frames);
+    put_lines(out, p, settings.settings.nb, table, frames)
 }
 
 // The text for an input that begins with these bytes, in the first bytes of `out`; how many they are. `more` says whether bytes follow: then these are as many as the longest
@@ -53,11 +53,10 @@ pub fn sheet_text(input: &[u8], more: bool, table: &mut [i32], out: &mut [u8]) -
     ensures upper_bound { result ≤ sheet_text_bytes }
 {
     if more {
-        return put_refused(out, 0, 9);
+        return put_refused(out, 0, Refusal::Malformed);
     }
-    let said = read_sheet(input, table);
-    match said {
-        Got::Read(s, frames) => put_report(out, s, table, frames),
-        Got::Refused(no) => put_refused(out, 0, no as u32),
+    match read_sheet(input, table) {
+        Ok((settings, frames)) => put_report(out, settings, table, frames),
+        Err(refusal) => put_refused(out, 0, refusal),
     }
 }

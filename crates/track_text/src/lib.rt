@@ -3,31 +3,30 @@
 
 ghost use Rattle.std.specs.Prelude.{◌≡◌, List, ◌++◌, ℕ, ◌<◌, ◌≤◌, pos, length};
 ghost use Rattle.pitch_recording.specs.Recording.{program_frames, recording_samples, recording_bytes, recording_numbers, recording_printed};
-ghost use Rattle.pitch_settings.specs.Settings.{settings_no};
 ghost use Rattle.pitch_text.specs.Text.{Put};
 ghost use Rattle.track_settings.specs.TrackSettings.{stored_settings, track_settings_no};
 ghost use Rattle.track_paper.specs.Paper.{F, paper_table};
 ghost use Rattle.track_text.specs.Program.{longest_head, longest_text, samples_left, track_head, track_report, track_text_call, Tracked};
 
-use pitch_recording::{PROGRAM_FRAMES, Recording, take_recording};
-use pitch_settings::{Settings, frame_length, hop_length};
+use pitch_recording::{PROGRAM_FRAMES, take_recording};
+use pitch_settings::Analysed;
 use pitch_text::{DIGITS_BYTES, LINE_BYTES, put_digits, put_lines, put_refused};
 use pitch_track::Track;
 use recording_head::Head;
-use track_settings::{TrackSettings, stored_settings};
+use track_settings::TrackSettings;
 
 // The longest text: the first line's two numbers, the space between them and its end, and a line for each frame that a program takes.
 pub const LONGEST_TEXT: usize = DIGITS_BYTES + 1 + DIGITS_BYTES + 1 + LINE_BYTES * PROGRAM_FRAMES;
 
 // Of n samples with these frames, those after the last frame's end.
-fn samples_left(s: Settings, n: usize, frames: usize) -> usize
-    requires { (settings_no s ≡ 0) × (frames ≡ F s n) }
-    ensures { result ≡ samples_left s n }
+fn samples_left(s: Analysed, n: usize, frames: usize) -> usize
+    requires { frames ≡ F s.settings n }
+    ensures { result ≡ samples_left s.settings n }
 {
     if frames == 0 {
         return n;
     }
-    n - ((frames - 1) * hop_length(s) + frame_length(s))
+    n - ((frames - 1) * s.hop_length() + s.frame_length())
 }
 
 // The rows of a fresh track of x, in the table; their number.
@@ -36,10 +35,8 @@ fn track_rows(k: TrackSettings, x: &[i16], table: &mut [i32]) -> usize
     ensures { Tracked k x.now table.old result table.new }
 {
     let started = Track::start(k);
-    let track = started.track;
-    let d = track.deliver(x, table);
-    let t = d.track;
-    t.frames
+    let delivered = started.track.deliver(x, table);
+    delivered.track.frames
 }
 
 // Frame count and samples left.
@@ -60,7 +57,9 @@ fn put_report(k: TrackSettings, x: &[i16], table: &mut [i32], out: &mut [u8]) ->
     ensures { Put out.old 0 (track_report k x.now) result out.new × (result ≤ longest_text) × (table.new ≡ paper_table k table.old x.now) }
 {
     let frames = track_rows(k, x, table);
-    let s = stored_settings(k);
+    let s = Analysed {
+        settings: k.stored(),
+    };
     let left = samples_left(s, x.len(), frames);
     let p = put_head(out, frames as u32, left as u32);
     put_lines(out, p, k.nb, table, frames)
@@ -80,9 +79,13 @@ pub fn track_text(
     ensures by_index { (rest : List ℕ) → length rest ≡ more → recording_printed result out.new samples.new table.new ≡ track_text_call head (input.now ++ rest) out.old samples.old table.old }
     ensures upper_bound { result ≤ longest_text }
 {
-    let taken = take_recording(head, input, more, samples);
-    match taken {
-        Recording::Refused(no) => put_refused(out, 0, no as u32),
-        Recording::Taken(k, n) => put_report(k, &samples[..n], table, out),
+    match take_recording(head, input, more, samples) {
+        Ok(recording) => put_report(
+            recording.settings,
+            &samples[..recording.samples],
+            table,
+            out,
+        ),
+        Err(refusal) => put_refused(out, 0, refusal),
     }
 }

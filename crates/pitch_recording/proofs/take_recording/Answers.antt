@@ -1,13 +1,14 @@
 -- `pitch_recording::take_recording` meets its contract.
-use Rattle.std.proofs.Common.{◌≡◌, List, ◌++◌, ℕ, ℤ, ◌-◌, ◌/◌, ◌≤◌, length, take, drop, sym, ap, ◌∙◌, arith}
+use Rattle.std.proofs.Common.{◌≡◌, refl, List, ◌++◌, ℕ, ℤ, ◌-◌, ◌/◌, ◌≤◌, length, take, drop, sym, ap, ◌∙◌, arith, rules}
 use lib.Seq.{length-take-le}
 use Rattle.lists.specs.Fill.{overwritten}
 use Rattle.pitch_input.specs.Input.{samples_from}
 use Rattle.pitch_input.specs.InputLaws.{loaded_over}
+use Rattle.refusals.specs.Refusals.{refusal_number, number_told}
 use Rattle.recording_head.specs.declared.Head.{Head}
 use Rattle.recording_head.specs.Head.{bytes_of_head}
 use Rattle.pitch_recording.specs.Recording.{recording_samples, samples_in, recording_no, take_call}
-use Rattle.pitch_recording.specs.RecordingLaws.{Ready, at_hand, few_samples, samples_count, none_after, refused_outcome, taken_outcome}
+use Rattle.pitch_recording.specs.RecordingLaws.{Ready, at_hand, few_samples, samples_count, none_after, refused_answer, taken_outcome}
 use Rattle.pitch_recording.proofs.take_recording.Goals as goal
 
 -- an input b that is all at hand, and a head of `size` bytes: its samples have room in x
@@ -18,33 +19,35 @@ module _ (head : Head) (b : List ℕ) (size : ℕ) (sized : size ≡ bytes_of_he
   room : Ready head b → (x : List ℤ) → recording_samples ≤ length x → (length b - size) / 2 ≤ length x
   room w x h = omega (arith, few_samples _ w.analysed _ w.few, counted)
 
-pub recording_no-no-requires : goal.recording_no-no-requires
-recording_no-no-requires c = c.requires.0
+pub check-requires : goal.check-requires
+check-requires c = c.requires.0
 
-pub returns-then-no-ne0 : goal.returns-then-no-ne0
-returns-then-no-ne0 c rest e = let p = c.recording_no-no in refused_outcome _ _ _ p.result (p.ensures rest e) c.if-no-ne0.true
+pub returns-in_err-check : goal.returns-in_err-check
+returns-in_err-check c rest e =
+    let n : number_told c.from_residual.result ≡ refusal_number c.in_err-check.field-0.0 = search rules in
+    refused_answer _ _ _ c.from_residual.result c.from_residual.ensures.0 (n ∙ c.in_err-check.ensures rest e)
 
-pub head_settings-k-requires : goal.head_settings-k-requires
-head_settings-k-requires c = (at_hand _ _ _ _ c.requires.0 c.recording_no-no.ensures c.if-no-ne0.false).1.enough
+pub head_settings-settings-requires : goal.head_settings-settings-requires
+head_settings-settings-requires c = (at_hand _ _ _ 0 c.requires.0 c.in_ok-check.ensures refl).1.enough
 
 pub overflow_sub-n : goal.overflow_sub-n
 overflow_sub-n c =
-    let w = at_hand _ _ _ _ c.requires.0 c.recording_no-no.ensures c.if-no-ne0.false in
+    let w = at_hand _ _ _ 0 c.requires.0 c.in_ok-check.ensures refl in
     omega (arith, c.head_size-size.ensures, w.1.enough)
 
 pub slice_bounds-load_samples-end : goal.slice_bounds-load_samples-end
 slice_bounds-load_samples-end c =
-    let w = at_hand _ _ _ _ c.requires.0 c.recording_no-no.ensures c.if-no-ne0.false in
+    let w = at_hand _ _ _ 0 c.requires.0 c.in_ok-check.ensures refl in
     room _ _ _ c.head_size-size.ensures w.1 c.args.samples.now c.requires.1
 
 pub slice_bounds-load_samples-end-2 : goal.slice_bounds-load_samples-end-2
 slice_bounds-load_samples-end-2 c =
-    let w = at_hand _ _ _ _ c.requires.0 c.recording_no-no.ensures c.if-no-ne0.false in
+    let w = at_hand _ _ _ 0 c.requires.0 c.in_ok-check.ensures refl in
     sym (length-take-le _ c.args.samples.now (room _ _ _ c.head_size-size.ensures w.1 c.args.samples.now c.requires.1))
 
 pub load_samples-requires : goal.load_samples-requires
 load_samples-requires c =
-    let w = at_hand _ _ _ _ c.requires.0 c.recording_no-no.ensures c.if-no-ne0.false in
+    let w = at_hand _ _ _ 0 c.requires.0 c.in_ok-check.ensures refl in
     let r = room _ _ _ c.head_size-size.ensures w.1 c.args.samples.now c.requires.1 in
     rw (length-take-le _ c.args.samples.now r) (omega (arith, c.head_size-size.ensures, w.1.enough))
 
@@ -59,10 +62,10 @@ pub returns : goal.returns
 returns c rest e =
     let a = c.args in
     let b = a.input.now in
-    let w = at_hand _ _ _ _ c.requires.0 c.recording_no-no.ensures c.if-no-ne0.false in
+    let w = at_hand _ _ _ 0 c.requires.0 c.in_ok-check.ensures refl in
     let g = none_after b rest a.more w.0 e in
-    let z = ap (recording_no a.head) (sym g) ∙ sym (c.recording_no-no.ensures rest e) ∙ c.if-no-ne0.false in
+    let z = ap (recording_no a.head) (sym g) ∙ sym (c.in_ok-check.ensures rest e) in
     let size = c.head_size-size.ensures in
     let loaded = loaded_is a.head b _ size a.samples.now c.load_samples.new.out (room _ _ _ size w.1 a.samples.now c.requires.1) c.load_samples.ensures in
-    taken_outcome a.head b a.samples.now _ _ _ z c.head_settings-k.ensures (counted a.head b _ size) loaded
+    taken_outcome a.head b a.samples.now _ _ _ z c.head_settings-settings.ensures (counted a.head b _ size) loaded
     ∙ ap (λ (l : List ℕ). take_call a.head l a.samples.now) (sym g)

@@ -16,7 +16,7 @@ use Rattle.pitch_text.proofs.put_fields.Goals as goal
 
 pub loop-k-init : goal.loop-k-init
 unfolding fields
-loop-k-init c = (omega arith, refl, omega arith, put_none c.args.out.now c.args.at)
+loop-k-init c = (refl, omega arith, put_none c.args.out.now c.args.at)
 
 pub put_number-p-requires : goal.put_number-p-requires
 put_number-p-requires c =
@@ -28,8 +28,7 @@ loop-k-preserved c =
     let l = c.loop-k in
     let f : SFits w32 (get_or c.args.values.now l.k (pos 0)) = search zneeds in
     let put = put_as c.put_number-p.ensures (ap decimal (r_var f).val) in (
-      omega arith,
-      c.put_number-p.auto.out ∙ length-set l.out l.p 32 ∙ l.invariant.1,
+      c.put_number-p.auto.out ∙ length-set l.out l.p 32 ∙ l.invariant.0,
       omega (arith, put.ends, decimal_few _ f),
-      put_as (put_then l.invariant.3 (put_then (put_byte _ _ 32) put)) (sym (fields_next c.args.values.now l.k (omega arith)) ∙ ap (λ (m : ℕ). fields (take m c.args.values.now)) (sym (add-one l.k))),
+      put_as (put_then l.invariant.2 (put_then (put_byte _ _ 32) put)) (sym (fields_next c.args.values.now l.k (omega arith)) ∙ ap (λ (m : ℕ). fields (take m c.args.values.now)) (sym (add-one l.k))),
     )

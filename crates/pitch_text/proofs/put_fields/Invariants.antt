@@ -1,13 +1,10 @@
 -- The invariants of `put_fields`.
 use mathlib.Core.Path.{◌≡◌}
-use Prim.Native.Nat.{◌+◌, ◌-◌, ◌*◌, ◌≤◌}
+use Prim.Native.Nat.{◌+◌, ◌*◌, ◌≤◌}
 use lib.ListN.{length, take}
 use Rattle.pitch_text.specs.Text.{Put, fields}
 use Rattle.pitch_text.proofs.put_fields.Given as goal
 
 abbrev pub invariant-loop-k : goal.invariant-loop-k
 invariant-loop-k l =
-    (l.k ≤ l.n) × (length l.out ≡ length l.initial.out) × (l.p ≤ l.at + 12 * l.k) × Put l.initial.out l.at (fields (take l.k l.values)) l.p l.out
-
-abbrev pub decreases-loop-k : goal.decreases-loop-k
-decreases-loop-k l = l.n - l.k
+    (length l.out ≡ length l.initial.out) × (l.p ≤ l.at + 12 * l.k) × Put l.initial.out l.at (fields (take l.k l.values)) l.p l.out

@@ -7,7 +7,7 @@ use Rattle.pitch_text.specs.TextLaws.{put_then, put_as, put_none, lines_none, li
 use Rattle.pitch_text.proofs.put_lines.Goals as goal
 
 pub loop-i-init : goal.loop-i-init
-loop-i-init c = (omega arith, refl, omega arith, put_as (put_none c.args.out.now c.args.at) (lines_none _ _))
+loop-i-init c = (refl, omega arith, put_as (put_none c.args.out.now c.args.at) (lines_none _ _))
 
 pub loop-i-preserved : goal.loop-i-preserved
 loop-i-preserved c =
@@ -15,8 +15,7 @@ loop-i-preserved c =
     let l = c.loop-i in
     let e = c.put_line-p.ensures in
     let r = ap (line_text l.i a.nb) c.get_row-r.ensures in (
-      omega arith,
-      c.put_line-p.auto.out ∙ l.invariant.1,
-      omega (arith, e.1, l.invariant.2),
-      put_as (put_then l.invariant.3 (put_as e.0 r)) (lines_next a.nb (row_at a.table.now) l.i),
+      c.put_line-p.auto.out ∙ l.invariant.0,
+      omega (arith, e.1, l.invariant.1),
+      put_as (put_then l.invariant.2 (put_as e.0 r)) (lines_next a.nb (row_at a.table.now) l.i),
     )

@@ -1,6 +1,6 @@
 -- The invariants of `put_lines`.
 use mathlib.Core.Path.{◌≡◌}
-use Prim.Native.Nat.{◌+◌, ◌-◌, ◌*◌, ◌≤◌}
+use Prim.Native.Nat.{◌+◌, ◌*◌, ◌≤◌}
 use lib.ListN.{length}
 use Rattle.pitch_table.specs.Row.{row_at}
 use Rattle.pitch_text.specs.Text.{Put, lines_text}
@@ -8,7 +8,4 @@ use Rattle.pitch_text.proofs.put_lines.Given as goal
 
 abbrev pub invariant-loop-i : goal.invariant-loop-i
 invariant-loop-i l =
-    (l.i ≤ l.n) × (length l.out ≡ length l.initial.out) × (l.p ≤ l.at + 97 * l.i) × Put l.initial.out l.at (lines_text l.nb (row_at l.table) l.i) l.p l.out
-
-abbrev pub decreases-loop-i : goal.decreases-loop-i
-decreases-loop-i l = l.n - l.i
+    (length l.out ≡ length l.initial.out) × (l.p ≤ l.at + 97 * l.i) × Put l.initial.out l.at (lines_text l.nb (row_at l.table) l.i) l.p l.out

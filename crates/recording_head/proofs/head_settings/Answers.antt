@@ -8,7 +8,7 @@ use Rattle.recording_head.proofs.head_settings.Goals as goal
 pub returns-in-Plain : goal.returns-in-Plain
 unfolding head_settings
 returns-in-Plain c =
-    c.fixed_settings.ensures
+    c.from.ensures
     ∙ ap fixed_settings c.settings_in.ensures
     ∙ ap (λ (h : Head). head_settings h c.args.bytes.now) (sym c.in-Plain.is)
 

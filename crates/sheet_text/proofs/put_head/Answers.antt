@@ -27,33 +27,33 @@ others : (s : Settings) {numbers : List ℤ} → numbers ≡ setting_numbers s �
 unfolding setting_numbers
 others s e = ap (λ (l : List ℤ). take (settings_count - 1) (drop 1 l)) e
 
-pub overflow_cast-s : goal.overflow_cast-s
-overflow_cast-s c = omega (arith, (held_settings c.args.s c.requires.0).rate_high)
+pub overflow_cast-settings : goal.overflow_cast-settings
+overflow_cast-settings c = omega (arith, (held_settings c.args.settings.settings c.args.settings.held).rate_high)
 
 pub put_digits-p-requires : goal.put_digits-p-requires
-put_digits-p-requires c = omega (arith, short c.args.s c.requires.0, c.requires.2)
+put_digits-p-requires c = omega (arith, short c.args.settings.settings c.args.settings.held, c.requires.1)
 
 pub put_fields-p-requires : goal.put_fields-p-requires
 unfolding setting_numbers
 put_fields-p-requires c =
     let p = c.put_digits-p in
-    (omega (arith, ap length (others c.args.s c.setting_numbers-numbers.ensures)), omega (arith, p.ensures.ends, short c.args.s c.requires.0, p.auto.out, c.requires.2))
+    (omega (arith, ap length (others c.args.settings.settings c.setting_numbers-numbers.ensures)), omega (arith, p.ensures.ends, short c.args.settings.settings c.args.settings.held, p.auto.out, c.requires.1))
 
 pub put_fields-p-requires-2 : goal.put_fields-p-requires-2
 put_fields-p-requires-2 c =
     let p = c.put_digits-p in
     let q = c.put_fields-p in
-    (omega arith, omega (arith, q.ensures.1, q.auto.out, p.ensures.ends, short c.args.s c.requires.0, p.auto.out, c.requires.2))
+    (omega arith, omega (arith, q.ensures.1, q.auto.out, p.ensures.ends, short c.args.settings.settings c.args.settings.held, p.auto.out, c.requires.1))
 
 pub bounds-out-p : goal.bounds-out-p
 bounds-out-p c =
     let p = c.put_digits-p in
     let q = c.put_fields-p in
     let r = c.put_fields-p-2 in
-    omega (arith, r.ensures.1, r.auto.out, q.ensures.1, q.auto.out, p.ensures.ends, short c.args.s c.requires.0, p.auto.out, c.requires.2)
+    omega (arith, r.ensures.1, r.auto.out, q.ensures.1, q.auto.out, p.ensures.ends, short c.args.settings.settings c.args.settings.held, p.auto.out, c.requires.1)
 
 pub overflow_add-result : goal.overflow_add-result
-overflow_add-result c = omega (arith, c.put_fields-p-2.ensures.1, c.put_fields-p.ensures.1, c.put_digits-p.ensures.ends, short c.args.s c.requires.0)
+overflow_add-result c = omega (arith, c.put_fields-p-2.ensures.1, c.put_fields-p.ensures.1, c.put_digits-p.ensures.ends, short c.args.settings.settings c.args.settings.held)
 
 pub returns : goal.returns
 unfolding sheet_head setting_numbers
@@ -61,6 +61,6 @@ returns c =
     let h = c.put_fields-p-2.ensures in
     let f = c.put_fields-p.ensures in
     let d = c.put_digits-p.ensures in
-    let settings = put_as f.0 (ap (λ (l : List ℤ). fields (take (settings_count - 1) l)) (others c.args.s c.setting_numbers-numbers.ensures)) in
-    let count = put_as h.0 (ap (λ (z : ℤ). fields (z ∷ [])) (r_nat w32 c.args.frames (omega (arith, c.requires.1))).val) in
-    (put_then d (put_then settings (put_then count (put_byte _ _ 10))), omega (arith, h.1, f.1, d.ends, short c.args.s c.requires.0))
+    let settings = put_as f.0 (ap (λ (l : List ℤ). fields (take (settings_count - 1) l)) (others c.args.settings.settings c.setting_numbers-numbers.ensures)) in
+    let count = put_as h.0 (ap (λ (z : ℤ). fields (z ∷ [])) (r_nat w32 c.args.frames (omega (arith, c.requires.0))).val) in
+    (put_then d (put_then settings (put_then count (put_byte _ _ 10))), omega (arith, h.1, f.1, d.ends, short c.args.settings.settings c.args.settings.held))

@@ -12,10 +12,10 @@ put_head-p-requires c = search rules
 pub put_lines-requires : goal.put_lines-requires
 put_lines-requires c =
     let h = c.put_head-p in (
-      omega (arith, (held_settings c.args.s c.requires.0).nb_high),
+      omega (arith, (held_settings c.args.settings.settings c.args.settings.held).nb_high),
+      omega (arith, c.requires.0),
       omega (arith, c.requires.1),
-      omega (arith, c.requires.2),
-      omega (arith, h.ensures.1, h.auto.out, c.requires.1, c.requires.3),
+      omega (arith, h.ensures.1, h.auto.out, c.requires.0, c.requires.2),
     )
 
 pub returns : goal.returns
@@ -23,4 +23,4 @@ unfolding sheet_report
 returns c =
     let l = c.put_lines.ensures in
     let h = c.put_head-p.ensures in
-    (put_then h.0 l.0, omega (arith, l.1, h.1, c.requires.1))
+    (put_then h.0 l.0, omega (arith, l.1, h.1, c.requires.0))

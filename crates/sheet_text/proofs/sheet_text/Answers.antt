@@ -1,12 +1,12 @@
 -- `sheet_text::sheet_text` meets its contract.
-use mathlib.Core.Path.{sym, ap, ◌∙◌}
+use mathlib.Core.Path.{refl, sym, ap, ◌∙◌}
 use mathlib.Core.List.{List, ◌++◌}
 use Prim.Native.Nat.{ℕ}
 use native.Mathlib.Omega.{arith}
 use Rattle.pitch_text.specs.Text.{refused_text}
 use Rattle.pitch_text.specs.TextLaws.{put_as, put_count, put_over}
 use Rattle.sheet_text.specs.Program.{sheet_text_call}
-use Rattle.sheet_text.specs.ProgramLaws.{no_sheet, none_more, text_refused, table_kept, outcome, found, refused, settings_known, few_frames, text_report}
+use Rattle.sheet_text.specs.ProgramLaws.{no_sheet, none_more, text_refused, table_kept, outcome, found, refused, few_frames, text_report}
 use Rattle.sheet_text.proofs.sheet_text.Goals as goal
 
 pub returns-then-more : goal.returns-then-more
@@ -24,20 +24,14 @@ returns-then-more c =
 
 pub put_report-requires : goal.put_report-requires
 put_report-requires c =
-    let a = c.args in
-    let f = found a.input.now a.table.now c.requires.1 c.read_sheet-said.ensures.table_after c.in-Read.is in
-    (settings_known f, few_frames f, omega (arith, few_frames f, c.read_sheet-said.auto.table, c.requires.1), c.requires.2)
+    let f = found c.args.input.now c.args.table.now c.requires.1 c.in-Ok.ensures.table_after refl in
+    (few_frames f, omega (arith, few_frames f, c.read_sheet.auto.table, c.requires.1), c.requires.2)
 
-pub overflow_cast-no : goal.overflow_cast-no
-overflow_cast-no c =
-    let f = refused c.args.input.now c.args.table.now c.requires.1 c.read_sheet-said.ensures.table_after c.in-Refused.is in
-    omega (arith, f.nine)
-
-pub returns-in-Read : goal.returns-in-Read
-returns-in-Read c =
+pub returns-in-Ok : goal.returns-in-Ok
+returns-in-Ok c =
     let a = c.args in
     let w = c.put_report.ensures in
-    let f = found a.input.now a.table.now c.requires.1 c.read_sheet-said.ensures.table_after c.in-Read.is in
+    let f = found a.input.now a.table.now c.requires.1 c.in-Ok.ensures.table_after refl in
     record {
       by_index = λ rest e.
           let q = put_as w.0 (text_report f) in
@@ -46,11 +40,11 @@ returns-in-Read c =
       upper_bound = w.1;
     }
 
-pub returns-in-Refused : goal.returns-in-Refused
-returns-in-Refused c =
+pub returns-in-Err : goal.returns-in-Err
+returns-in-Err c =
     let a = c.args in
-    let w = c.put_refused-in-Refused.ensures in
-    let f = refused a.input.now a.table.now c.requires.1 c.read_sheet-said.ensures.table_after c.in-Refused.is in
+    let w = c.put_refused-in-Err.ensures in
+    let f = refused a.input.now a.table.now c.requires.1 c.in-Err.ensures.table_after refl in
     record {
       by_index = λ rest e.
           let q = put_as w.0 (ap refused_text f.nine ∙ text_refused a.input.now f.bad) in

@@ -9,29 +9,23 @@ use Rattle.track_text.proofs.samples_left.Goals as goal
 
 pub returns-then-frames-eq0 : goal.returns-then-frames-eq0
 unfolding samples_left
-returns-then-frames-eq0 c = rw (eq-eqb (F c.args.s c.args.n) 0 (sym c.requires.1 ∙ c.if-frames-eq0.true))
-
-pub hop_length-requires : goal.hop_length-requires
-hop_length-requires c = c.requires.0
+returns-then-frames-eq0 c = rw (eq-eqb (F c.args.s.settings c.args.n) 0 (sym c.requires ∙ c.if-frames-eq0.true))
 
 -- the last frame lies within the samples
 pub overflow_mul-result : goal.overflow_mul-result
 overflow_mul-result c =
-    let l = last_frame c.args.s c.requires.0 c.args.n c.args.frames c.requires.1 c.if-frames-eq0.false in
+    let l = last_frame c.args.s.settings c.args.s.analysed c.args.n c.args.frames c.requires c.if-frames-eq0.false in
     rw c.hop_length.ensures (omega (arith, l, c.ranges.n))
-
-pub frame_length-requires : goal.frame_length-requires
-frame_length-requires c = c.requires.0
 
 pub overflow_add-result : goal.overflow_add-result
 overflow_add-result c =
-    let l = last_frame c.args.s c.requires.0 c.args.n c.args.frames c.requires.1 c.if-frames-eq0.false in
+    let l = last_frame c.args.s.settings c.args.s.analysed c.args.n c.args.frames c.requires c.if-frames-eq0.false in
     rw (c.hop_length.ensures, c.frame_length.ensures) (omega (arith, l, c.ranges.n))
 
 pub overflow_sub-result-2 : goal.overflow_sub-result-2
 overflow_sub-result-2 c =
-    rw (c.hop_length.ensures, c.frame_length.ensures) (last_frame c.args.s c.requires.0 c.args.n c.args.frames c.requires.1 c.if-frames-eq0.false)
+    rw (c.hop_length.ensures, c.frame_length.ensures) (last_frame c.args.s.settings c.args.s.analysed c.args.n c.args.frames c.requires c.if-frames-eq0.false)
 
 pub returns : goal.returns
 unfolding samples_left
-returns c = rw (c.hop_length.ensures, c.frame_length.ensures, ← c.requires.1, ne_eqb c.args.frames 0 c.if-frames-eq0.false)
+returns c = rw (c.hop_length.ensures, c.frame_length.ensures, ← c.requires, ne_eqb c.args.frames 0 c.if-frames-eq0.false)
