@@ -32,6 +32,7 @@ fn rows_hold(settings: Held, table: &[i32], rows: usize) -> bool
 }
 
 // The sheet of the first rows, which a page of `room` bytes can take, or why there is none.
+#[tactic(auto, using(crate::specs::CallsLaws::no_settings, crate::specs::CallsLaws::no_frames, crate::specs::CallsLaws::no_rows, crate::specs::CallsLaws::no_table, crate::specs::CallsLaws::no_room, crate::specs::CallsLaws::no_refusal, crate::specs::CallsLaws::hold_each))]
 fn sheet_of(s: Settings, frames: usize, table: &[i32], room: usize) -> Result<Sheet, Refusal>
     ensures number { number_told result ≡ write_no s frames table.now room }
     ensures settings { IfOk result (λ t. t.settings.settings ≡ s) }

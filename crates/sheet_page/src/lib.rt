@@ -19,6 +19,7 @@ use sheet_sections::{
 };
 
 // The settings of a page that has them.
+#[tactic(auto, unfolding(crate::specs::Page::sheet_settings))]
 fn settings_at(page: &[u8]) -> Settings
     requires { verdicts_at ≤ length page.now }
     ensures { result ≡ sheet_settings page.now }
@@ -33,6 +34,7 @@ fn settings_at(page: &[u8]) -> Settings
 }
 
 // The settings of a page that begins as a sheet does: as many settings as a sheet has, which it can hold, and a frame count that a sheet may have.
+#[tactic(auto, using(crate::specs::PageLaws::head_means, crate::specs::PageLaws::head_yes, refusals::specs::RefusalsLaws::number_positive), unfolding(crate::specs::Page::frames_in))]
 fn head(page: &[u8]) -> Option<Held>
     ensures good { IsSome result ↔ (head_good page.now ≡ true) }
     ensures settings { IfSome result (λ s. s.settings ≡ sheet_settings page.now) }
@@ -50,6 +52,7 @@ fn head(page: &[u8]) -> Option<Held>
 }
 
 // How many of the first verdicts are 0.
+#[tactic(auto, using(crate::specs::PageLaws::voiced_counted))]
 fn voiced_in(page: &[u8], frames: usize) -> usize
     requires { verdicts_at + frames ≤ length page.now }
     ensures { result ≡ voiced_before page.now frames }
@@ -77,6 +80,7 @@ pub struct Sections<'a> {
 
 impl Sections<'_> {
     // The sections of the page, where no byte is missing and none follows, and the pairs and the correlations number the voiced verdicts.
+    #[tactic(auto, using(crate::specs::PageLaws::head_means, crate::specs::PageLaws::sizes_means, crate::specs::PageLaws::sizes_yes, crate::specs::PageLaws::voiced_in_le), unfolding(crate::specs::Page::frames_in, crate::specs::Page::voiced_in, crate::specs::Page::pairs_from, crate::specs::Page::correlations_from))]
     fn of(page: &[u8]) -> Option<Sections>
         ensures good { IsSome result ↔ ((head_good page.now && sizes_good page.now) ≡ true) }
         ensures page { IfSome result (λ s. s.page.now ≡ page.now) }
@@ -124,6 +128,7 @@ impl Sections<'_> {
     }
 
     // Whether every row can be read.
+    #[tactic(auto, using(crate::specs::PageLaws::voiced_none, crate::specs::PageLaws::voiced_le, crate::specs::PageLaws::rows_no, crate::specs::PageLaws::rows_yes))]
     fn rows_good(self) -> bool
         ensures { result ≡ rows_good self.entry.page.now }
     {
@@ -149,6 +154,7 @@ pub struct SheetPage<'a> {
 
 impl SheetPage<'_> {
     // The page as a sheet, or refusal 9 where it is none.
+    #[tactic(auto, unfolding(crate::specs::Page::page_no, crate::specs::Page::well_formed))]
     pub fn of(page: &[u8]) -> Result<SheetPage, Refusal>
         ensures number { number_told result ≡ page_no page.now }
         ensures page { IfOk result (λ s. s.sections.page.now ≡ page.now) }
@@ -162,6 +168,7 @@ impl SheetPage<'_> {
     }
 
     // The rows of the sheet, written whole.
+    #[tactic(auto, using(crate::specs::PageLaws::voiced_none, crate::specs::PageLaws::voiced_le, crate::specs::PageLaws::never_bad, crate::specs::PageLaws::put_none))]
     pub fn put_rows(self, table: &mut [i32])
         requires { self.sections.frames * row_size ≤ length table.old }
         ensures { table.new ≡ sets table.old 0 (numbers_of (rows_in self.entry.sections.page.now)) }

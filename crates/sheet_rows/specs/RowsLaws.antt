@@ -40,7 +40,7 @@ module _ (s : Settings) (index contour correlation : ℤ) where
   unfolding row_of eq_z
   row_zero_divisor e = rw e
 
-  -- a verdict that is 1 or 2, or neither and not 0, told by its order
+  -- a verdict that is 1 or 2, told by its order
   pub row_unpitched : {verdict : ℤ} → pos 1 ≤ℤ verdict → verdict ≤ℤ pos 2 → row_of s verdict index contour correlation ≡ Some (unpitched_row verdict)
   row_unpitched {verdict} h k =
       ⊎_elim row_unvoiced row_zero_divisor (grind (arith, ints))

@@ -122,6 +122,9 @@ pub fn setting_numbers(settings: Held) -> [i32; SETTINGS_COUNT]
     ]
 }
 
+// The functions that write take the place where they begin and answer the place after: a type that held the page with its place would be no plainer, since each contract speaks of
+// the page before and after.
+
 // Signed numbers from `at` on; the place after them.
 fn put_numbers(page: &mut [u8], at: usize, numbers: &[i32]) -> usize
     requires { at + setting_bytes * length numbers.now ≤ length page.old }
@@ -173,7 +176,7 @@ fn put_row_bytes(page: &mut [u8], at: usize, which: Section, r: Row) -> usize
 #[derive(Clone, Copy)]
 pub struct Sheet<'a> {
     pub settings: Held,
-    // the rows are the table's first, as many as there are frames
+    // the rows are the table's first, as many as there are frames: a table and a count, since the definitions take rows so, and the slice of the rows alone would be no plainer
     pub table: &'a [i32],
     pub frames: usize,
     pub voiced: usize,
@@ -185,6 +188,7 @@ pub struct Sheet<'a> {
 
 impl Sheet<'_> {
     // The bytes of the sheet.
+    #[tactic(auto, using(crate::specs::SheetLaws::length_rows, crate::specs::SheetLaws::length_sheet, crate::specs::SheetLaws::section_entries_le))]
     pub fn length(self) -> usize
         ensures { result ≡ length (sheet self.entry.settings.settings (rows_of self.entry.table.now self.entry.frames)) }
     {
@@ -192,6 +196,7 @@ impl Sheet<'_> {
     }
 
     // How many of the rows have an entry in the section.
+    #[tactic(auto, using(crate::specs::SheetLaws::length_rows, crate::specs::SheetLaws::verdicts_count, crate::specs::SheetLaws::correlations_count))]
     fn entries(self, which: Section) -> usize
         ensures { result ≡ length (section_entries which (rows_of self.entry.table.now self.entry.frames)) }
     {

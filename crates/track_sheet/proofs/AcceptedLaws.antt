@@ -1,5 +1,5 @@
 -- Writing accepts what every chain of deliveries leaves.
-use Rattle.std.specs.Prelude.{◌≡◌, refl, true, List, [], ◌∷◌, ◌++◌, ℕ, zero, suc, ◌*◌, ◌≤◌, ◌<◌, ℤ, length, get_or, take, drop}
+use Rattle.std.specs.Prelude.{Ok, ◌≡◌, refl, true, List, [], ◌∷◌, ◌++◌, ℕ, zero, suc, ◌*◌, ◌≤◌, ◌<◌, ℤ, length, get_or, take, drop}
 use Rattle.std.proofs.Math.Path.{sym, ap}
 use Rattle.std.proofs.Common.{◌∙◌, ⊎_elim, arith, take_at, SFits}
 use Rattle.std.proofs.Math.ListN.{length-drop}
@@ -24,8 +24,6 @@ use Rattle.sheet_rows.specs.Rows.{row_of, row_holds}
 use Rattle.sheet_sections.specs.Sheet.{sheet, sheet_length, rows_of}
 use Rattle.sheet_page.specs.Page.{numbers_of}
 use Rattle.sheet_page.specs.PageLaws.{numbers_append}
-use Rattle.pitch_sheet.specs.declared.Wrote.TheVariants.{Written}
-use Rattle.pitch_sheet.specs.declared.Got.TheVariants.{Read}
 use Rattle.pitch_sheet.specs.Calls.{whole_rows, rows_hold, wrote, write_call, WriteOutcome, got, read_call}
 use Rattle.pitch_sheet.specs.CallsLaws.{hold_all, no_room, no_refusal, write_done}
 use Rattle.pitch_sheet.specs.Holds.{no_row, Holds}
@@ -96,13 +94,13 @@ numbers_are k j (suc n) = numbers_append (tabulate (paper_row k j no_previous) n
 
 -- the sheet on paper reads back to them
 paper_reads : (k : TrackSettings) (h : settings_no (stored_settings k) ≡ 0) (j into : List ℤ) → SFits w32 (stored_settings k).thres1 → SFits w32 (stored_settings k).thres2 → frames_done (stored_settings k) j ≤ most_frames → frames_done (stored_settings k) j ≤ whole_rows into
-    → read_call (paper_sheet k j) into ≡ got (Read (stored_settings k) (frames_done (stored_settings k) j)) (paper_numbers k j no_previous (frames_done (stored_settings k) j) ++ drop (frames_done (stored_settings k) j * row_size) into)
+    → read_call (paper_sheet k j) into ≡ got (Ok (stored_settings k, frames_done (stored_settings k) j)) (paper_numbers k j no_previous (frames_done (stored_settings k) j) ++ drop (frames_done (stored_settings k) j * row_size) into)
 unfolding paper_sheet paper_rows
 paper_reads k h j into a b few room =
     let c = count k h j in
     let n = numbers_are k j (frames_done (stored_settings k) j) in
     round_trip.sheet_reads (stored_settings k) (tabulate (paper_row k j no_previous) (frames_done (stored_settings k) j)) into (paper_holds k h j a b few) (omega (arith, c))
-    ∙ (λ u. got (Read (stored_settings k) (c u)) (n u ++ drop (c u * row_size) into))
+    ∙ (λ u. got (Ok (stored_settings k, c u)) (n u ++ drop (c u * row_size) into))
 
 -- ---- what a chain of deliveries leaves
 
@@ -151,14 +149,14 @@ module _ (k : TrackSettings) (right : start_no k ≡ 0) (t : List ℤ) (ds : Lis
   written : (page : List ℕ) → length (paper_sheet k J) ≤ length page → WrittenOn k t ds page
   written page l =
       write_done (stored_settings k) frames left page (enough (length page) l)
-      ∙ ap (λ (b : List ℕ). wrote (Written (length b)) (b ++ drop (length b) page)) sheet_left
+      ∙ ap (λ (b : List ℕ). wrote (Ok (length b)) (b ++ drop (length b) page)) sheet_left
 
   longest : length (paper_sheet k J) ≤ sheet_length most_frames most_frames
   unfolding paper_sheet
   longest = round_trip.longest (stored_settings k) (paper_rows k J) (omega (arith, count k h J, (reached k right t ds).few))
 
   reads_back : SFits w32 (stored_settings k).thres1 → SFits w32 (stored_settings k).thres2 → (page : List ℕ) → length (paper_sheet k J) ≤ length page → (into : List ℤ) → frames_done (stored_settings k) J ≤ whole_rows into
-      → read_call (take (length (paper_sheet k J)) (write_call (stored_settings k) frames left page).page) into ≡ got (Read (stored_settings k) (frames_done (stored_settings k) J)) (paper_numbers k J no_previous (frames_done (stored_settings k) J) ++ drop (frames_done (stored_settings k) J * row_size) into)
+      → read_call (take (length (paper_sheet k J)) (write_call (stored_settings k) frames left page).page) into ≡ got (Ok (stored_settings k, frames_done (stored_settings k) J)) (paper_numbers k J no_previous (frames_done (stored_settings k) J) ++ drop (frames_done (stored_settings k) J * row_size) into)
   reads_back a b page l into g =
       let bytes = paper_sheet k J in
       ap (λ (o : WriteOutcome). read_call (take (length bytes) o.page) into) (written page l)

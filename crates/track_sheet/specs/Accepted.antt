@@ -1,5 +1,5 @@
 -- Every table that a track can finish is one that writing accepts: the claim, over every list of deliveries. Definitions only; `AcceptedLaws` shows it.
-use Rattle.std.specs.Prelude.{◌≡◌, List, ◌++◌, ℕ, ◌*◌, ◌≤◌, ◌<◌, ℤ, length, take, drop}
+use Rattle.std.specs.Prelude.{Ok, ◌≡◌, List, ◌++◌, ℕ, ◌*◌, ◌≤◌, ◌<◌, ℤ, length, take, drop}
 use Rattle.std.specs.Int.{w32}
 use Rattle.std.proofs.Common.{SFits}
 use Rattle.lists.specs.Fill.{tabulate}
@@ -9,8 +9,6 @@ use Rattle.pitch_table.specs.declared.Row.{Row}
 use Rattle.track_paper.specs.Paper.{no_previous, paper_row, paper_numbers, frames_done}
 use Rattle.track_chain.specs.Chain.{run_from_start, final_samples}
 use Rattle.sheet_sections.specs.Sheet.{sheet, sheet_length}
-use Rattle.pitch_sheet.specs.declared.Wrote.TheVariants.{Written}
-use Rattle.pitch_sheet.specs.declared.Got.TheVariants.{Read}
 use Rattle.pitch_sheet.specs.Calls.{whole_rows, write_no, wrote, write_call, got, read_call}
 use Rattle.pitch_table.specs.Row.{row_size, most_frames}
 
@@ -32,7 +30,7 @@ module _ (k : TrackSettings) (t : List ℤ) (ds : List (List ℤ)) where
 
   abbrev pub WrittenOn : List ℕ → Type 0
   WrittenOn page =
-      write_call (stored_settings k) (run_from_start k t ds).track.frames (run_from_start k t ds).table page ≡ wrote (Written (length left_sheet)) (left_sheet ++ drop (length left_sheet) page)
+      write_call (stored_settings k) (run_from_start k t ds).track.frames (run_from_start k t ds).table page ≡ wrote (Ok (length left_sheet)) (left_sheet ++ drop (length left_sheet) page)
 
   pub record AcceptedByWrite : Type 0 where
     -- nothing is refused but a page that is shorter than the sheet, with 8; so 9 is never said
@@ -46,4 +44,4 @@ module _ (k : TrackSettings) (t : List ℤ) (ds : List (List ℤ)) where
     pub reads_back : SFits w32 (stored_settings k).thres1 → SFits w32 (stored_settings k).thres2 → (page : List ℕ) → length left_sheet ≤ length page
         → (into : List ℤ) → frames_done (stored_settings k) (final_samples k t ds) ≤ whole_rows into
         → read_call (take (length left_sheet) (write_call (stored_settings k) (run_from_start k t ds).track.frames (run_from_start k t ds).table page).page) into
-        ≡ got (Read (stored_settings k) (frames_done (stored_settings k) (final_samples k t ds))) (paper_numbers k (final_samples k t ds) no_previous (frames_done (stored_settings k) (final_samples k t ds)) ++ drop (frames_done (stored_settings k) (final_samples k t ds) * row_size) into)
+        ≡ got (Ok (stored_settings k, frames_done (stored_settings k) (final_samples k t ds))) (paper_numbers k (final_samples k t ds) no_previous (frames_done (stored_settings k) (final_samples k t ds)) ++ drop (frames_done (stored_settings k) (final_samples k t ds) * row_size) into)

@@ -6,19 +6,9 @@ use native.Mathlib.Omega.{arith}
 use borrow.Author.Count.{below_more}
 use Rattle.std.specs.Prelude.{Some}
 use Rattle.sheet_page.specs.Page.{row_in, readable}
-use Rattle.sheet_page.specs.PageLaws.{voiced_none, voiced_le, counted_voiced, counted_quiet, rows_yes, rows_no}
+use Rattle.sheet_page.specs.PageLaws.{counted_voiced, counted_quiet}
 use Rattle.sheet_page.proofs.Sections.rows_good.Goals as goal
 use Rattle.sheet_page.proofs.Sections.rows_good.Goals.{then-r-eq0, else-r-eq0}
-
-pub loop-i-init : goal.loop-i-init
-loop-i-init c = (omega arith, sym (voiced_none c.args.self.page.now), λ k h. absurd (omega arith))
-
-pub returns-in_default : goal.returns-in_default
-returns-in_default c =
-    rw (rows_no c.args.self.page.now c.loop-i.i (omega (arith, c.args.self.frames_read)) (sym c.row.ensures ∙ c.in_default.is))
-
-pub overflow_add-seen : goal.overflow_add-seen
-overflow_add-seen c = omega (arith, voiced_le c.args.self.page.now c.loop-i.i)
 
 pub loop-i-preserved : goal.loop-i-preserved
 unfolding readable
@@ -34,7 +24,3 @@ loop-i-preserved c =
       ],
       below_more (λ (j : ℕ). readable (row_in p j) ≡ true) i c.loop-i.invariant.2 (ap readable e),
     )
-
-pub returns : goal.returns
-returns c =
-    rw (rows_yes c.args.self.page.now (λ k l. c.loop-i.invariant.2 k (omega (arith, c.args.self.frames_read))))

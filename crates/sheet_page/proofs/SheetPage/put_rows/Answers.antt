@@ -5,19 +5,9 @@ use native.Mathlib.Omega.{arith}
 use lib.Seq.{sets}
 use Rattle.std.specs.Prelude.{Some}
 use Rattle.sheet_page.specs.Page.{frames_in, row_in, rows_in, numbers_of}
-use Rattle.sheet_page.specs.PageLaws.{voiced_none, voiced_le, counted_voiced, counted_quiet, never_bad, first_rows, put_none, put_next}
+use Rattle.sheet_page.specs.PageLaws.{counted_voiced, counted_quiet, first_rows, put_next}
 use Rattle.sheet_page.proofs.SheetPage.put_rows.Goals as goal
 use Rattle.sheet_page.proofs.SheetPage.put_rows.Goals.{then-r-eq0, else-r-eq0}
-
-pub loop-i-init : goal.loop-i-init
-loop-i-init c = (omega arith, sym (voiced_none c.args.self.sections.page.now), put_none c.args.self.sections.page.now c.args.table.now)
-
-pub returns-in_default : goal.returns-in_default
-returns-in_default c =
-    absurd (never_bad c.args.self.sections.page.now c.args.self.readable c.loop-i.i (omega (arith, c.args.self.sections.frames_read)) (sym c.row.ensures ∙ c.in_default.is))
-
-pub overflow_add-seen : goal.overflow_add-seen
-overflow_add-seen c = omega (arith, voiced_le c.args.self.sections.page.now c.loop-i.i)
 
 pub loop-i-preserved : goal.loop-i-preserved
 loop-i-preserved c =
