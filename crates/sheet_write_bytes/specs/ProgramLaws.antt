@@ -1,5 +1,5 @@
 -- Laws of the written bytes: a refusal, a sheet, what a started, fed and written track leaves, and that a track of at most the frames that a program takes is written on `longest_program_sheet` bytes.
-use Rattle.std.specs.Prelude.{◌≡◌, refl, Bool, true, false, cond, ℕ, ◌/◌, ◌≤◌, ltb, ℤ, pos}
+use Rattle.std.specs.Prelude.{Result, Ok, Err, ◌≡◌, refl, Bool, true, false, cond, ℕ, ◌/◌, ◌≤◌, ltb, ℤ, pos}
 use Rattle.std.proofs.Math.Path.{ap}
 use Rattle.std.proofs.Common.{◌∙◌, zero-add}
 use mathlib.Core.List.{List, [], ◌∷◌, ◌++◌}
@@ -20,8 +20,9 @@ use Rattle.track_chain.specs.Chain.{Left, chain, final_samples}
 use Rattle.track_chain.proofs.OnPaper.{equation}
 use Rattle.sheet_sections.specs.declared.Section.TheVariants.{Pairs}
 use Rattle.sheet_sections.specs.SheetLaws.{length_sheet, section_entries_le}
-use Rattle.pitch_sheet.specs.declared.Wrote.{Wrote}
-use Rattle.pitch_sheet.specs.declared.Wrote.TheVariants.{Written, Refused}
+use Rattle.refusals.specs.declared.Refusal.{Refusal}
+use Rattle.refusals.specs.Refusals.{told}
+use Rattle.std.specs.Result.{result_unwrap_or}
 use Rattle.pitch_sheet.specs.Calls.{WriteOutcome, wrote, write_call}
 use Rattle.track_sheet.specs.Accepted.{paper_rows, paper_sheet}
 use Rattle.track_sheet.proofs.AcceptedLaws.{accepted_by_write}
@@ -40,6 +41,11 @@ module _ (head : Head) (b : List ℕ) where
   unfolding sheet_written
   written_sheet e = rw (eq-eqb (recording_no head b) 0 e)
 
+-- an answer that was told so
+written_count : (r : Result ℕ Refusal) (n : ℕ) → told r ≡ Ok n → result_unwrap_or r 0 ≡ n
+written_count (Ok m) n e = cc
+written_count (Err m) n e = cc
+
 -- ---- start, deliver, write: a recording that the track on paper accepts, and a page that has room for its sheet
 
 module _ (k : TrackSettings) (t x : List ℤ) (page : List ℕ) (h : track_settings_no k (pos 0) ≡ 0) (taken : paper_no track_limit (stored_settings k) (length t / row_size) [] x ≡ 0) (room : length (paper_sheet k x) ≤ length page)
@@ -53,23 +59,18 @@ module _ (k : TrackSettings) (t x : List ℤ) (page : List ℕ) (h : track_setti
   unfolding chain
   rows_left = ap (λ (v : DeliveryOutcome). v.table) e ∙ ap (λ (l : Left). l.table) (equation k h t (x ∷ [])) ∙ ap (paper_table k t) whole
 
-  module _ (r : Wrote) (p : List ℕ) (w : wrote r p ≡ write_call (stored_settings k) d.delivered.track.frames d.table page) where
-    put : wrote r p ≡ wrote (Written (length (paper_sheet k x))) (overwritten (paper_sheet k x) page)
+  module _ (r : Result ℕ Refusal) (p : List ℕ) (w : wrote (told r) p ≡ write_call (stored_settings k) d.delivered.track.frames d.table page) where
+    put : wrote (told r) p ≡ wrote (Ok (length (paper_sheet k x))) (overwritten (paper_sheet k x) page)
     unfolding chain overwritten
     put =
         w
         ∙ ap (λ (v : DeliveryOutcome). write_call (stored_settings k) v.delivered.track.frames v.table page) e
         ∙ (accepted_by_write k h t (x ∷ [])).written page (rw whole room)
-        ∙ ap (λ (j : List ℤ). wrote (Written (length (paper_sheet k j))) (paper_sheet k j ++ drop (length (paper_sheet k j)) page)) whole
+        ∙ ap (λ (j : List ℤ). wrote (Ok (length (paper_sheet k j))) (paper_sheet k j ++ drop (length (paper_sheet k j)) page)) whole
 
-    pub never_refused : (n : ℕ) → r ≡ Refused n → ⊥
-    never_refused n q =
-        let a = ap (λ (o : WriteOutcome). o.answer) put in
-        let z : ◌≡◌ {A = ℕ} 0 1 = cc in
-        omega arith
-
-    pub sheet_put : (n : ℕ) → r ≡ Written n → (n ≡ length (paper_sheet k x)) × (p ≡ overwritten (paper_sheet k x) page)
-    sheet_put n q = let a = ap (λ (o : WriteOutcome). o.answer) put in (cc, ap (λ (o : WriteOutcome). o.page) put)
+    -- nothing is refused
+    pub sheet_put : (result_unwrap_or r 0 ≡ length (paper_sheet k x)) × (p ≡ overwritten (paper_sheet k x) page)
+    sheet_put = (written_count r _ (ap (λ (o : WriteOutcome). o.answer) put), ap (λ (o : WriteOutcome). o.page) put)
 
 -- ---- a track of at most the frames that a program takes
 

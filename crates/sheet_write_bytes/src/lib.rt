@@ -10,13 +10,13 @@ ghost use Rattle.track_sheet.specs.Accepted.{paper_sheet};
 ghost use Rattle.sheet_write_bytes.specs.Program.{longest_program_sheet, sheet_bytes_call};
 ghost use Rattle.pitch_table.specs.Row.{row_size};
 
-use pitch_recording::{PROGRAM_FRAMES, Recording, take_recording};
-use pitch_sheet::{Wrote, write_sheet};
+use pitch_recording::{PROGRAM_FRAMES, take_recording};
+use pitch_sheet::write_sheet;
 use pitch_text::put_refused;
 use pitch_track::Track;
 use recording_head::Head;
 use sheet_sections::{SHORTEST_SHEET, VOICED_FRAME_BYTES};
-use track_settings::{TrackSettings, stored_settings};
+use track_settings::TrackSettings;
 
 // The longest sheet: that of as many voiced frames as a program takes.
 pub const LONGEST_PROGRAM_SHEET: usize = SHORTEST_SHEET + PROGRAM_FRAMES * VOICED_FRAME_BYTES;
@@ -27,16 +27,12 @@ fn put_track(k: TrackSettings, x: &[i16], table: &mut [i32], out: &mut [u8]) -> 
     ensures { (result ≡ length (paper_sheet k x.now)) × (out.new ≡ overwritten (paper_sheet k x.now) out.old) × (table.new ≡ paper_table k table.old x.now) }
 {
     let started = Track::start(k);
-    let track = started.track;
-    let d = track.deliver(x, table);
-    let done = d.track;
+    let delivered = started.track.deliver(x, table);
+    let done = delivered.track;
     let frames = done.frames;
-    let stored = stored_settings(k);
-    let w = write_sheet(stored, frames, table, out);
-    let Wrote::Written(n) = w else {
-        return 0;
-    };
-    n
+    let stored = k.stored();
+    // there is no refusal
+    write_sheet(stored, frames, table, out).unwrap_or(0)
 }
 
 // The bytes for an input with this head that begins with these bytes and has `more` after them, in the first bytes of `out`; how many they are. The input's samples are left in the first places of
@@ -53,9 +49,13 @@ pub fn sheet_write_bytes(
     ensures by_index { (rest : List ℕ) → length rest ≡ more → recording_printed result out.new samples.new table.new ≡ sheet_bytes_call head (input.now ++ rest) out.old samples.old table.old }
     ensures upper_bound { result ≤ longest_program_sheet }
 {
-    let taken = take_recording(head, input, more, samples);
-    match taken {
-        Recording::Refused(no) => put_refused(out, 0, no as u32),
-        Recording::Taken(k, n) => put_track(k, &samples[..n], table, out),
+    match take_recording(head, input, more, samples) {
+        Ok(recording) => put_track(
+            recording.settings,
+            &samples[..recording.samples],
+            table,
+            out,
+        ),
+        Err(refusal) => put_refused(out, 0, refusal),
     }
 }

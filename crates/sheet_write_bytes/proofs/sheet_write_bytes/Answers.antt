@@ -9,10 +9,8 @@ use lib.Seq.{length-take-le}
 use Rattle.lists.specs.Fill.{overwritten}
 use Rattle.recording_head.specs.declared.Head.{Head}
 use Rattle.track_settings.specs.declared.TrackSettings.{TrackSettings}
-use Rattle.pitch_recording.specs.declared.Recording.{Recording}
-use Rattle.pitch_recording.specs.declared.Recording.TheVariants.{Taken}
-use Rattle.pitch_recording.specs.Recording.{recording_samples, take_outcome, take_call, program_frames, recording_printed}
-use Rattle.pitch_recording.specs.RecordingLaws.{IsTaken, is_taken, is_refused, any_rest, length-any_rest, few_samples, printed_refused, printed_taken}
+use Rattle.pitch_recording.specs.Recording.{recording_samples, program_frames, recording_printed}
+use Rattle.pitch_recording.specs.RecordingLaws.{IsTaken, is_taken, is_refused, any_taken, taken_room, printed_refused, printed_taken}
 use Rattle.pitch_text.specs.TextLaws.{put_as, put_count, put_over}
 use Rattle.track_settings.specs.TrackSettings.{stored_settings}
 use Rattle.track_paper.specs.Paper.{F, paper_table}
@@ -21,68 +19,55 @@ use Rattle.sheet_write_bytes.specs.Program.{longest_program_sheet, sheet_bytes_c
 use Rattle.sheet_write_bytes.specs.ProgramLaws.{written_refused, written_sheet, small_sheet, few_taken}
 use Rattle.sheet_write_bytes.proofs.sheet_write_bytes.Goals as goal
 
-pub overflow_cast-no : goal.overflow_cast-no
-overflow_cast-no c =
-    let more = c.args.more in
-    let f = is_refused _ _ _ _ _ (c.take_recording-taken.ensures (any_rest more) (length-any_rest more)) _ c.in-Refused.is in
-    omega (arith, f.small)
-
--- what is known of an input that is taken, whatever bytes follow: its n samples have room, and their sheet too
-any_taken : (head : Head) (b : List ℕ) (x y : List ℤ) (r : Recording) (more n : ℕ) (k : TrackSettings)
-    → ((rest : List ℕ) → length rest ≡ more → take_outcome r y ≡ take_call head (b ++ rest) x) → r ≡ Taken k n → IsTaken head (b ++ any_rest more) x k n y
-any_taken head b x y r more n k f e = is_taken _ _ _ _ _ (f (any_rest more) (length-any_rest more)) _ _ e
-
 module _ (head : Head) (b : List ℕ) (x y : List ℤ) (n : ℕ) (k : TrackSettings) (t : IsTaken head b x k n y) (e : length y ≡ length x) (h : recording_samples ≤ length x) where
-  room : n ≤ length y
-  room = omega (arith, few_samples _ t.analysed n t.few)
-
   few : F (stored_settings k) (length (take n y)) ≤ program_frames
-  few = rw (length-take-le _ _ room) t.few
+  few = rw (length-take-le _ _ (taken_room head b x y n k t e h)) t.few
 
   small : length (paper_sheet k (take n y)) ≤ longest_program_sheet
   small = small_sheet k (take n y) few
 
 pub slice_bounds-put_track-end : goal.slice_bounds-put_track-end
 slice_bounds-put_track-end c =
-    let t = any_taken _ _ _ _ _ _ _ _ c.take_recording-taken.ensures c.in-Taken.is in
-    room _ _ _ _ _ _ t c.take_recording-taken.auto.samples c.requires.1
+    let t = any_taken _ _ _ _ _ _ _ c.take_recording.ensures c.in-Ok.is in
+    taken_room _ _ _ _ _ _ t c.take_recording.auto.samples c.requires.1
 
-pub slice_bounds-put_track-end-in-Taken : goal.slice_bounds-put_track-end-in-Taken
-slice_bounds-put_track-end-in-Taken c =
-    let t = any_taken _ _ _ _ _ _ _ _ c.take_recording-taken.ensures c.in-Taken.is in
-    sym (length-take-le _ _ (room _ _ _ _ _ _ t c.take_recording-taken.auto.samples c.requires.1))
+pub slice_bounds-put_track-end-in-Ok : goal.slice_bounds-put_track-end-in-Ok
+slice_bounds-put_track-end-in-Ok c =
+    let t = any_taken _ _ _ _ _ _ _ c.take_recording.ensures c.in-Ok.is in
+    sym (length-take-le _ _ (taken_room _ _ _ _ _ _ t c.take_recording.auto.samples c.requires.1))
 
 pub put_track-requires : goal.put_track-requires
 put_track-requires c =
-    let t = any_taken _ _ _ _ _ _ _ _ c.take_recording-taken.ensures c.in-Taken.is in
-    let f = few _ _ _ _ _ _ t c.take_recording-taken.auto.samples c.requires.1 in
-    let s = small _ _ _ _ _ _ t c.take_recording-taken.auto.samples c.requires.1 in
+    let t = any_taken _ _ _ _ _ _ _ c.take_recording.ensures c.in-Ok.is in
+    let f = few _ _ _ _ _ _ t c.take_recording.auto.samples c.requires.1 in
+    let s = small _ _ _ _ _ _ t c.take_recording.auto.samples c.requires.1 in
     (t.accepted, few_taken _ _ f c.args.table.now c.requires.2, omega (arith, s, c.requires.3))
 
-pub returns-in-Refused : goal.returns-in-Refused
+pub returns-in-Err : goal.returns-in-Err
 unfolding sheet_bytes_call
-returns-in-Refused c =
-    let w = c.put_refused.ensures in record {
+returns-in-Err c =
+    let u = c.put_refused in
+    let w = u.ensures in record {
       by_index = λ rest e.
-          let f = is_refused _ _ _ _ _ (c.take_recording-taken.ensures rest e) _ c.in-Refused.is in
+          let f = is_refused _ _ _ _ _ (c.take_recording.ensures rest e) _ c.in-Err.is in
           let b = c.args.input.now ++ rest in
           let q = put_as w.0 (written_refused c.args.head b _ f.number_is f.some_number) in
-          ap (λ (x : List ℤ). recording_printed c.put_refused.result c.put_refused.new.out x c.args.table.now) f.samples_stay
+          ap (λ (x : List ℤ). recording_printed u.result u.new.out x c.args.table.now) f.samples_stay
           ∙ printed_refused c.args.head b _ c.args.out.now c.args.samples.now c.args.table.now (put_count q) (put_over q (omega (arith, w.1, c.requires.3))) _ f.number_is f.some_number;
       upper_bound = omega (arith, w.1);
     }
 
-pub returns-in-Taken : goal.returns-in-Taken
+pub returns-in-Ok : goal.returns-in-Ok
 unfolding sheet_bytes_call
-returns-in-Taken c =
+returns-in-Ok c =
     let w = c.put_track.ensures in
     let out = c.args.out.now in
-    let t = any_taken _ _ _ _ _ _ _ _ c.take_recording-taken.ensures c.in-Taken.is in record {
+    let t = any_taken _ _ _ _ _ _ _ c.take_recording.ensures c.in-Ok.is in record {
       by_index = λ rest e.
-          let f = is_taken _ _ _ _ _ (c.take_recording-taken.ensures rest e) _ _ c.in-Taken.is in
+          let f = is_taken _ _ _ _ _ (c.take_recording.ensures rest e) _ c.in-Ok.is in
           let b = c.args.input.now ++ rest in
           let k = ap₂ paper_sheet f.settings_are f.front ∙ written_sheet c.args.head b f.no_refusal in
           printed_taken c.args.head b _ out _ _ (w.0 ∙ ap length k) (w.1 ∙ ap (λ (l : List ℕ). overwritten l out) k) f.no_refusal f.samples_are
           (w.2 ∙ (λ i. paper_table (f.settings_are i) c.args.table.now (f.front i)));
-      upper_bound = omega (arith, w.0, small _ _ _ _ _ _ t c.take_recording-taken.auto.samples c.requires.1);
+      upper_bound = omega (arith, w.0, small _ _ _ _ _ _ t c.take_recording.auto.samples c.requires.1);
     }
