@@ -1,12 +1,13 @@
 -- Laws of little-endian numbers: past the end they are 0, so that a place may be cut to the end; and one element more of a load and of a comparison.
-use Rattle.std.specs.Prelude.{◌≡◌, ℕ, zero, suc, ◌+◌, ◌<◌, ◌≤◌, min, Bool, true, false, ◌&&◌, List, [], ◌∷◌, length, pos, Some, slice_get, slice_index, slice_set, refl}
+use Rattle.std.specs.Prelude.{◌≡◌, ℕ, zero, suc, ◌+◌, ◌<◌, ◌≤◌, min, Bool, true, false, ◌&&◌, List, [], ◌∷◌, length, ◌*◌, pos, Some, slice_get, slice_index, slice_set, refl}
 use Rattle.std.proofs.Math.Bool.{and-false}
-use Rattle.std.proofs.Common.{sym, ap, ◌∙◌, subst, add-one, arith, length-set}
+use Rattle.std.specs.Int.{w16, w32, w64, from_le_bytes}
+use Rattle.std.proofs.Common.{sym, ap, ap₂, ◌∙◌, subst, add-one, arith, length-set}
 use Rattle.std.proofs.Math.Decide.{dec_lt}
-use Rattle.lists.specs.Fill.{filled}
+use Rattle.lists.specs.Fill.{filled, tabulate}
 use Rattle.lists.specs.FillLaws.{filled_none, filled_turn}
 use Rattle.zint.specs.Wrap.{wrap, mod_z}
-use Rattle.cases_io.specs.Little.{u16_at, u32_at, u64_at, i16_at, i32_at, is_number, agree}
+use Rattle.cases_io.specs.Little.{u16_at, u32_at, u64_at, i16_at, i32_at, is_number, agree, numbers_at}
 
 -- ---- past the end
 pub byte_past : (xs : List ℕ) (k : ℕ) → length xs ≤ k → slice_index xs k ≡ 0
@@ -41,6 +42,31 @@ at_cut z F n past place from e = go (dec_lt place n)
     go : Dec (place < n) → F from ≡ F place
     go (yes l) = ap F (omega arith)
     go (no g) = past from (omega arith) ∙ sym (past place (omega arith))
+
+pub byte_cut : (xs : List ℕ) (place from : ℕ) → from ≡ min place (length xs) → slice_index xs from ≡ slice_index xs place
+byte_cut xs = at_cut 0 (slice_index xs) (length xs) (byte_past xs)
+
+-- the bytes from a place on, by which a number is read
+pub two_bytes : (xs : List ℕ) (at : ℕ) → from_le_bytes w16 (filled (numbers_at slice_index 1 xs at) 2 (0 ∷ 0 ∷ [])) ≡ u16_at xs at
+unfolding filled tabulate u16_at
+two_bytes xs at = ap₂ (λ (x y : ℕ). x + y * 256) (ap (slice_index xs) (omega arith)) (ap (slice_index xs) (omega arith))
+
+pub four_bytes : (xs : List ℕ) (at : ℕ) → from_le_bytes w32 (filled (numbers_at slice_index 1 xs at) 4 (0 ∷ 0 ∷ 0 ∷ 0 ∷ [])) ≡ u32_at xs at
+unfolding filled tabulate u16_at u32_at
+four_bytes xs at =
+    let first : at + 1 * 0 ≡ at = omega arith in
+    let fourth : at + 3 ≡ at + 2 + 1 = omega arith in
+    omega (arith, ap (slice_index xs) first, ap (slice_index xs) fourth)
+
+pub eight_bytes : (xs : List ℕ) (at : ℕ) → from_le_bytes w64 (filled (numbers_at slice_index 1 xs at) 8 (0 ∷ 0 ∷ 0 ∷ 0 ∷ 0 ∷ 0 ∷ 0 ∷ 0 ∷ [])) ≡ u64_at xs at
+unfolding filled tabulate u16_at u32_at u64_at
+eight_bytes xs at =
+    let first : at + 1 * 0 ≡ at = omega arith in
+    let fourth : at + 3 ≡ at + 2 + 1 = omega arith in
+    let sixth : at + 5 ≡ at + 4 + 1 = omega arith in
+    let seventh : at + 6 ≡ at + 4 + 2 = omega arith in
+    let eighth : at + 7 ≡ at + 4 + 2 + 1 = omega arith in
+    omega (arith, ap (slice_index xs) first, ap (slice_index xs) fourth, ap (slice_index xs) sixth, ap (slice_index xs) seventh, ap (slice_index xs) eighth)
 
 pub i16_cut : (xs : List ℕ) (place from : ℕ) → from ≡ min place (length xs) → i16_at xs from ≡ i16_at xs place
 i16_cut xs = at_cut (pos 0) (i16_at xs) (length xs) (i16_past xs)

@@ -8,7 +8,7 @@ ghost use Rattle.std.specs.Io.KnownBytes.{Appends, Consumes, IsAtEnd};
 ghost use Rattle.std.specs.Fn.{FnReturnsAt};
 ghost use Rattle.lists.specs.Fill.{filled};
 ghost use Rattle.cases_io.specs.Little.{u16_at, u32_at, u64_at, i16_at, i32_at, numbers_at, agree};
-ghost use Rattle.cases_io.specs.LittleLaws.{i16_cut, i32_cut};
+ghost use Rattle.cases_io.specs.LittleLaws.{byte_cut, i16_cut, i32_cut};
 ghost use Rattle.cases_io.specs.Counts.{same_settings, counted, tally, tally_after, tally_plus, counted_at, totals_of};
 ghost use Rattle.cases_io.specs.Replay.{Replayed};
 ghost use Rattle.cases_io.specs.declared.Tally.{Tally};
@@ -53,34 +53,31 @@ pub fn byte_at(bytes: &[u8], at: usize) -> u8
     if at < bytes.len() { bytes[at] } else { 0 }
 }
 
-// The number of two bytes at `at`, without sign. `u16::from_le_bytes` would be no plainer here and in the next two: a byte past the end is 0, so its array would be filled byte by byte.
+// The number of two bytes at `at`, without sign.
 pub fn u16_at(bytes: &[u8], at: usize) -> u16
     ensures { result ≡ u16_at bytes.now at }
 {
-    if at >= bytes.len() {
-        return 0;
-    }
-    byte_at(bytes, at) as u16 + byte_at(bytes, at + 1) as u16 * 256
+    let mut two = [0u8; 2];
+    load(bytes, at, &mut two);
+    u16::from_le_bytes(two)
 }
 
 // The number of four bytes at `at`, without sign: a length or a count.
 pub fn u32_at(bytes: &[u8], at: usize) -> usize
     ensures { (result ≡ u32_at bytes.now at) × (result < 4294967296) }
 {
-    if at >= bytes.len() {
-        return 0;
-    }
-    u16_at(bytes, at) as usize + u16_at(bytes, at + 2) as usize * 65536
+    let mut four = [0u8; 4];
+    load(bytes, at, &mut four);
+    u32::from_le_bytes(four) as usize
 }
 
 // The number of eight bytes at `at`, without sign.
 pub fn usize_at(bytes: &[u8], at: usize) -> usize
     ensures { result ≡ u64_at bytes.now at }
 {
-    if at >= bytes.len() {
-        return 0;
-    }
-    u32_at(bytes, at) + u32_at(bytes, at + 4) * 4294967296
+    let mut eight = [0u8; 8];
+    load(bytes, at, &mut eight);
+    usize::from_le_bytes(eight)
 }
 
 // The number of two bytes at `at`, with its sign.
@@ -117,6 +114,20 @@ pub trait Little: Copy + PartialEq {
         ensures { result ≡ value_at bytes.now at };
 
     ghost cut: { (xs : List ℕ) (place from : ℕ) → from ≡ min place (length xs) → value_at xs from ≡ value_at xs place };
+}
+
+impl Little for u8 {
+    ghost value_at = { slice_index };
+
+    ghost SIZE = { 1 };
+
+    const SIZE: usize = 1;
+
+    ghost cut = { byte_cut };
+
+    fn at(bytes: &[u8], at: usize) -> u8 {
+        byte_at(bytes, at)
+    }
 }
 
 impl Little for i16 {
