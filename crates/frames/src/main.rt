@@ -30,7 +30,8 @@ fn read_record<R: Read>(input: &mut R, bytes: &mut [u8]) -> Result<usize, Failur
     Ok(head + rest)
 }
 
-// What became of a record: its line was printed and more may follow, or it was the last, at the end of the input or refused.
+// What became of a record: its line was printed and more may follow, or it was the last, at the end of the input or refused. An enum of its own, since a flag or an Option would not say which
+// of the two ends the loop.
 #[derive(Clone, Copy)]
 enum Printed {
     More,
