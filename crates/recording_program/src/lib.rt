@@ -54,13 +54,6 @@ pub fn run_program<P: RecordingProgram, R: Read, W: Write, E: Write>(
     let n = whole.count;
     let mut samples = room::<i16, RECORDING_SAMPLES>(0);
     let mut table = room::<i32, RECORDING_NUMBERS>(0);
-    let made = P::make(
-        head,
-        &bytes[..n],
-        whole.more,
-        &mut samples,
-        &mut table,
-        out,
-    );
+    let made = P::make(head, &bytes[..n], whole.more, &mut samples, &mut table, out);
     write_output(output, errors, name, &out[..made])
 }
