@@ -1,5 +1,5 @@
 // What a program that replays a list of cases stands on: reading the list, little-endian numbers of a byte slice, comparison with them, and the lines that tell how many agree. A
-// byte past the end reads as 0, and so no place is out of range. Only `count` has a `requires`: each kind has its place among the tallies.
+// byte past the end reads as 0, and so no place is out of range. Only `count` and `replay` have a `requires`: each kind has its place among the tallies, and what is given to call can be called.
 #![tactic(auto)]
 
 ghost use Rattle.std.specs.Prelude.{List, ℕ, ◌≡◌, ◌+◌, ◌*◌, ◌<◌, ◌≤◌, min, take, length, IfSome, IfOk, OnOk, slice_index};
