@@ -7,6 +7,7 @@ use Rattle.pitch_settings.specs.declared.Settings.{Settings}
 use Rattle.pitch_settings.specs.Settings.{settings_no, frame_length}
 use Rattle.pitch_settings.specs.SettingsLaws.{accepted_settings}
 use Rattle.pitch_input.specs.Input.{input_settings}
+use Rattle.pitch_input.specs.InputLaws.{settings_small}
 use Rattle.refusals.specs.declared.Refusal.{Refusal}
 use Rattle.refusals.specs.Refusals.{refusal_number, number_told}
 use Rattle.refusals.specs.RefusalsLaws.{refused_positive}
@@ -57,6 +58,17 @@ module _ (b : List ℕ) where
       pub length_whole : record_size (input_settings b) ≡ record_length b
       unfolding record_length
       length_whole = rw (le-ltb (length b) record_head enough, known)
+
+-- the number is small: a record's own rules end at 10
+pub no_small : (b : List ℕ) → record_no b ≤ 10
+unfolding record_no
+no_small b = by (ltb (length b) record_head) (eqb (settings_no (input_settings b)) 0) (ltb (length b) (record_size (input_settings b))) (settings_small (input_settings b))
+  where
+    by : (x y z : Bool) → settings_no (input_settings b) ≤ 3 → cond x 10 (cond y (cond z 10 0) (settings_no (input_settings b))) ≤ 10
+    by true y z h = omega arith
+    by false true true h = omega arith
+    by false true false h = omega arith
+    by false false z h = omega arith
 
 -- a record that is not refused
 pub record Whole (b : List ℕ) : Type 0 where

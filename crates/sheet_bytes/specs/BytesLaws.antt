@@ -131,13 +131,22 @@ pub number_2 : (p : List ℕ) (at : ℕ) → at + 2 ≤ length p → get_or p at
 number_2 p at h =
     omega (arith, number_next 1 p at (at + 1) (omega arith) (omega arith), number_next 0 p (at + 1) (at + 2) (omega arith) (omega arith), number_none p (at + 2))
 
-pub number_4 : (p : List ℕ) (at : ℕ) → at + 4 ≤ length p
-    → get_or p at 0 + get_or p (at + 1) 0 * 256 + get_or p (at + 2) 0 * 65536 + get_or p (at + 3) 0 * 16777216 ≡ number_at 4 p at
+pub number_4 : (p : List ℕ) (at : ℕ) → at + 4 ≤ length p → number_at 2 p at + number_at 2 p (at + 2) * 65536 ≡ number_at 4 p at
 number_4 p at h =
     omega (
       arith,
+      number_2 p at (omega arith),
       number_next 3 p at (at + 1) (omega arith) (omega arith),
       number_next 2 p (at + 1) (at + 2) (omega arith) (omega arith),
+    )
+
+pub four_bytes : (p : List ℕ) (at : ℕ) → at + 4 ≤ length p
+    → get_or p at 0 + get_or p (at + 1) 0 * 256 + get_or p (at + 2) 0 * 65536 + get_or p (at + 3) 0 * 16777216 ≡ number_at 4 p at
+four_bytes p at h =
+    omega (
+      arith,
+      number_4 p at h,
+      number_2 p at (omega arith),
       number_next 1 p (at + 2) (at + 3) (omega arith) (omega arith),
       number_next 0 p (at + 3) (at + 4) (omega arith) (omega arith),
       number_none p (at + 4),

@@ -66,22 +66,22 @@ fn voiced_in(page: &[u8], frames: usize) -> usize
 // A page whose sections have the sizes of a sheet's, with what they say: `Sections::of` makes them. Some row may still be one that no sheet has.
 #[derive(Clone, Copy)]
 pub struct Sections<'a> {
-    page: &'a [u8],
+    pub page: &'a [u8],
     pub settings: Held,
     pub frames: usize,
     // how many of the frames are voiced
-    voiced: usize,
-    ghost begins: { head_good page.now ≡ true },
-    ghost sized: { sizes_good page.now ≡ true },
-    ghost settings_read: { settings.settings ≡ sheet_settings page.now },
-    ghost frames_read: { frames ≡ frames_in page.now },
-    ghost voiced_read: { voiced ≡ voiced_in page.now },
+    pub voiced: usize,
+    pub ghost begins: { head_good page.now ≡ true },
+    pub ghost sized: { sizes_good page.now ≡ true },
+    pub ghost settings_read: { settings.settings ≡ sheet_settings page.now },
+    pub ghost frames_read: { frames ≡ frames_in page.now },
+    pub ghost voiced_read: { voiced ≡ voiced_in page.now },
 }
 
 impl Sections<'_> {
     // The sections of the page, where no byte is missing and none follows, and the pairs and the correlations number the voiced verdicts.
     #[tactic(auto, using(crate::specs::PageLaws::head_means, crate::specs::PageLaws::sizes_means, crate::specs::PageLaws::sizes_yes, crate::specs::PageLaws::voiced_in_le), unfolding(crate::specs::Page::frames_in, crate::specs::Page::voiced_in, crate::specs::Page::pairs_from, crate::specs::Page::correlations_from))]
-    fn of(page: &[u8]) -> Option<Sections>
+    pub fn of(page: &[u8]) -> Option<Sections>
         ensures good { IsSome result ↔ ((head_good page.now && sizes_good page.now) ≡ true) }
         ensures page { IfSome result (λ s. s.page.now ≡ page.now) }
     {
