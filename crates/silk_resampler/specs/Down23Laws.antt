@@ -178,13 +178,19 @@ module _ (F : Filter) (s : List ℤ) (x : ℕ → ℤ) (m : ℕ) (b : List ℤ) 
   batch_out out = filled_ext (2 * (m / 3)) out (λ j l. decimated_ext F (m / 3) j l (λ i g. h i (omega arith)))
 
   -- its states: four values of b from m on, and the recursion's, which it left in the part w
-  pub batch_states : (z : States) {w : List ℤ} → w ≡ with_states z (take 2 (drop 4 s)) → 4 ≤ length s
+  pub batch_left : (z : States) {w : List ℤ} → w ≡ with_states z (take 2 (drop 4 s)) → 4 ≤ length s
       → filled (sample (drop m b)) 4 (take 4 s ++ (w ++ drop 2 (drop 4 s))) ≡ tabulate (λ i. buffer F s x (m + i)) 4 ++ with_states z (drop 4 s)
   unfolding filled sample
-  batch_states z {w} e g =
+  batch_left z {w} e g =
       ap₂ (λ (t u : List ℤ). t ++ u)
       (tabulate_ext 4 (λ i l. get_or-drop m b i (pos 0) ∙ h (m + i) (omega arith)))
       (drop_at (take 4 s) (w ++ drop 2 (drop 4 s)) 4 (length-take-le 4 s g) ∙ ap (λ (t : List ℤ). t ++ drop 2 (drop 4 s)) e ∙ with_part z (drop 4 s))
+
+  -- the same of any part of b from m on that has these four
+  pub batch_states : (j : ℕ) (z : States) {w : List ℤ} → w ≡ with_states z (take 2 (drop 4 s)) → 4 ≤ j → 4 ≤ length s
+      → filled (sample (take j (drop m b))) 4 (take 4 s ++ (w ++ drop 2 (drop 4 s))) ≡ tabulate (λ i. buffer F s x (m + i)) 4 ++ with_states z (drop 4 s)
+  unfolding sample
+  batch_states j z {w} e f g = filled_ext 4 (take 4 s ++ (w ++ drop 2 (drop 4 s))) (λ i l. get_or-take j (drop m b) i (pos 0) (omega arith)) ∙ batch_left z e g
 
 -- ---- a frame
 

@@ -12,7 +12,7 @@ use Rattle.lists.specs.FillLaws.{filled_copied}
 use Rattle.lists.specs.Signal.{sample}
 use Rattle.silk_resampler.specs.declared.filter.Filter.{Filter}
 use Rattle.silk_resampler.specs.Down23.{States, ar2_states, filtered, states_of, with_states, buffer, down2_3_states}
-use Rattle.silk_resampler.specs.Down23Laws.{batch_at, batch_out, batch_states, states_part}
+use Rattle.silk_resampler.specs.Down23Laws.{batch_at, batch_out, batch_left, states_part}
 use Rattle.silk_resampler.proofs.silk_resampler_down2_3.Goals as goal
 
 -- the buffer after the recursion: what it holds, of the copied history and of the part that the recursion left
@@ -50,5 +50,5 @@ returns c =
       s_after =
           ap (λ (t : List ℤ). t ++ drop 4 states) (last ∙ ap (λ (n : ℕ). take n (drop m buf)) four)
           ∙ filled_copied (drop m buf) states 4 (pos 0) room
-          ∙ batch_states F s x m buf b a f g;
+          ∙ batch_left F s x m buf b a f g;
     }
