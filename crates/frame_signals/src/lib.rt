@@ -14,36 +14,36 @@ use silk_macros::silk_add_sat16;
 use silk_resampler::{Filter, silk_resampler_down2, silk_resampler_down2_3};
 use silk_sigproc::{bits_over, silk_sum_sqr_shift};
 
-// By how many bits the first n samples shift right.
-pub fn frame_shift(frame: &[i16], n: usize) -> u32
-    requires { (0 < n) × ((n < 2 ^ 28) × (n ≤ length frame.now)) }
-    ensures { (result ≡ down_shift (take n frame.now)) × (result < 16) }
+// By how many bits the samples shift right.
+pub fn frame_shift(frame: &[i16]) -> u32
+    requires { (0 < length frame.now) × (length frame.now < 2 ^ 28) }
+    ensures { (result ≡ down_shift frame.now) × (result < 16) }
 {
-    let sum = silk_sum_sqr_shift(frame, n);
+    let sum = silk_sum_sqr_shift(frame, frame.len());
     (bits_over(sum.energy, sum.shift) + 1) / 2
 }
 
-// The first n samples, shifted right, in the first places of the scratch; without a shift the scratch stays as it is.
-pub fn scale_into(frame: &[i16], scratch: &mut [i16], n: usize, shift: u32)
-    requires { (n ≤ length frame.now) × ((n ≤ length scratch.old) × (shift < 16)) }
-    ensures { scratch.new ≡ filled (shifted_at frame.now shift) (moved_count shift n) scratch.old }
+// The samples, shifted right, in the first places of the scratch; without a shift the scratch stays as it is.
+// By index: of what a `zip` with `iter_mut` writes a proof knows nothing.
+pub fn scale_into(frame: &[i16], scratch: &mut [i16], shift: u32)
+    requires { (length frame.now ≤ length scratch.old) × (shift < 16) }
+    ensures { scratch.new ≡ filled (shifted_at frame.now shift) (moved_count shift (length frame.now)) scratch.old }
 {
-    let count = if shift == 0 { 0 } else { n };
+    let count = if shift == 0 { 0 } else { frame.len() };
     for i in 0..count {
         scratch[i] = frame[i] >> shift;
     }
 }
 
-// The first n samples of whichever holds the working frame.
-pub fn working_frame<'a>(frame: &'a [i16], scratch: &'a [i16], n: usize, shift: u32) -> &'a [i16]
-    requires { (n ≤ length frame.now) × (n ≤ length scratch.now) }
-    ensures { result.now ≡ take n (holder shift frame.now scratch.now) }
+// The working frame: the frame itself, or where there is a shift as many samples of the scratch.
+pub fn working_frame<'a>(frame: &'a [i16], scratch: &'a [i16], shift: u32) -> &'a [i16]
+    requires { length frame.now ≤ length scratch.now }
+    ensures { result.now ≡ take (length frame.now) (holder shift frame.now scratch.now) }
 {
     if shift == 0 {
-        &frame[..n]
-    } else {
-        &scratch[..n]
+        return frame;
     }
+    &scratch[..frame.len()]
 }
 
 // Half the rate, from states of 0.
@@ -78,13 +78,15 @@ pub fn frame_8khz(frame: &[i16], out: &mut [i16], fs_khz: usize, filter: Filter)
     }
 }
 
-// Each of the first n samples with the one before it, from the last down, as the source does it in place.
-fn two_tap_sum(x: &mut [i16], n: usize)
-    requires { n ≤ length x.old }
-    ensures { x.new ≡ filled (two_tap (sample x.old)) n x.old }
+// Each sample with the one before it, in place. From the first up, where the source goes from the last down: the sample before is carried along.
+fn two_tap_sum(x: &mut [i16])
+    ensures { x.new ≡ filled (two_tap (sample x.old)) (length x.old) x.old }
 {
-    for i in (1..n).rev() {
-        x[i] = silk_add_sat16(x[i], x[i - 1]);
+    let mut before = 0;
+    for place in x.iter_mut() {
+        let sample = *place;
+        *place = silk_add_sat16(sample, before);
+        before = sample;
     }
 }
 
@@ -94,5 +96,5 @@ pub fn frame_4khz(frame: &[i16], out: &mut [i16])
     ensures { out.new ≡ overwritten (down_to_4khz frame.now) out.old }
 {
     halve_into(frame, out);
-    two_tap_sum(out, frame.len() / 2);
+    two_tap_sum(&mut out[..frame.len() / 2]);
 }

@@ -203,11 +203,11 @@ fn analyse(frame: &[i16], s: Analysed, prev: Previous) -> Verdict
     ensures verdict { result ≡ verdict_of s.settings (take (frame_length s.settings) frame.now) prev.lag prev.correlation }
     ensures carried { VerdictCarried s.settings result }
 {
-    let n = s.frame_length();
+    let samples = &frame[..s.frame_length()];
     let mut scratch = [0i16; 640];
-    let shift = frame_shift(frame, n);
-    scale_into(frame, &mut scratch, n, shift);
-    let w = working_frame(frame, &scratch, n, shift);
+    let shift = frame_shift(samples);
+    scale_into(samples, &mut scratch, shift);
+    let w = working_frame(samples, &scratch, shift);
     analyse_working(w, s, prev)
 }
 

@@ -1,5 +1,5 @@
 -- `frame_signals::frame_shift` meets its contract.
-use mathlib.Core.Path.{ap, ap₂, ◌∙◌}
+use Rattle.std.proofs.Common.{◌≡◌, ap, ap₂, ◌∙◌, length, take, take_all}
 use Prim.Native.Nat.{ℕ, ◌+◌, ◌/◌, ◌<◌}
 use native.Mathlib.Omega.{arith}
 use Rattle.silk_sigproc.specs.SumSqr.{excess}
@@ -19,4 +19,6 @@ pub returns : goal.returns
 unfolding down_shift
 returns c =
     let s = c.silk_sum_sqr_shift-sum in
-    (ap (λ (k : ℕ). (k + 1) / 2) (c.bits_over.ensures ∙ ap₂ excess s.ensures.energy_value.0 s.ensures.energy_value.1), omega (arith, over-lt c))
+    let x = c.args.frame.now in
+    let e : take (length x) x ≡ x = take_all (length x) x (omega arith) in
+    (ap (λ (k : ℕ). (k + 1) / 2) (c.bits_over.ensures ∙ ap₂ excess s.ensures.energy_value.0 s.ensures.energy_value.1) ∙ ap down_shift e, omega (arith, over-lt c))

@@ -3,7 +3,7 @@ use mathlib.Core.Path.{◌≡◌, refl, sym, ap, ◌∙◌}
 use Prim.Native.Nat.{ℕ, ◌^◌}
 use native.Mathlib.Omega.{arith}
 use lib.IntN.{pos}
-use lib.ListN.{get_or, length-set}
+use lib.ListN.{length, get_or, length-set}
 use mir.Syntax.{w16}
 use Rattle.zint.specs.ReadLaws.{r_elem, r_shr}
 use Rattle.zint.specs.RuleLaws.{zneeds}
@@ -15,16 +15,16 @@ use Rattle.frame_signals.specs.ScaleLaws.{moved_none, moved_all, moved_le}
 use Rattle.frame_signals.proofs.scale_into.Goals.{then-shift-eq0, else-shift-eq0}
 use Rattle.frame_signals.proofs.scale_into.Goals as goal
 
-counted : (c : goal.Joined-shift-eq0) → c.if-shift-eq0.count ≡ moved_count c.args.shift c.args.n
+counted : (c : goal.Joined-shift-eq0) → c.if-shift-eq0.count ≡ moved_count c.args.shift (length c.args.frame.now)
 counted c =
     let a = c.args in
-    elim c.if-shift-eq0.branch [ then-shift-eq0 w ↦ w.count-is ∙ sym (moved_none a.shift a.n w.if-shift-eq0.true) | else-shift-eq0 w ↦ w.count-is ∙ sym (moved_all a.shift a.n w.if-shift-eq0.false) ]
+    elim c.if-shift-eq0.branch [ then-shift-eq0 w ↦ w.count-is ∙ sym (moved_none a.shift (length a.frame.now) w.if-shift-eq0.true) | else-shift-eq0 w ↦ w.count-is ∙ sym (moved_all a.shift (length a.frame.now) w.if-shift-eq0.false) ]
 
 pub loop-i-init : goal.loop-i-init
 loop-i-init c =
     let a = c.args in
     let e = counted c in
-    (e, (omega (arith, moved_le a.shift a.n), (omega arith, (refl, filled_none _ _))))
+    (e, (omega (arith, moved_le a.shift (length a.frame.now)), (omega arith, (refl, filled_none _ _))))
 
 pub loop-i-preserved : goal.loop-i-preserved
 unfolding shifted_at sample
@@ -49,5 +49,5 @@ loop-i-preserved c =
 pub returns : goal.returns
 returns c =
     let a = c.args in
-    let e : c.loop-i.i ≡ moved_count a.shift a.n = omega arith in
+    let e : c.loop-i.i ≡ moved_count a.shift (length a.frame.now) = omega arith in
     c.loop-i.invariant.1.1.1.1 ∙ ap (λ (k : ℕ). filled (shifted_at a.frame.now a.shift) k a.scratch.now) e

@@ -1,45 +1,44 @@
 -- `frame_signals::two_tap_sum` meets its contract.
-use mathlib.Core.Path.{◌≡◌, refl, sym, ap, ap₂, ◌∙◌}
-use mathlib.Core.List.{List}
-use Prim.Native.Nat.{ℕ, ◌<◌, ◌-◌}
-use native.Mathlib.Omega.{arith}
-use lib.IntN.{ℤ, pos, ◌+ℤ◌}
-use lib.ListN.{get_or, length-set}
-use mir.Syntax.{w16}
-use mir.Val.{to_z, of_z}
+use Rattle.std.proofs.Common.{◌≡◌, refl, sym, ap, ap₂, ◌∙◌, subst, arith, ℕ, zero, suc, get_or, length-set, List, ℤ, pos, negsuc, ◌+ℤ◌, SFits, to_z, of_z, add-one}
+use Rattle.std.specs.Int.{w16}
 use Rattle.zint.specs.Clamp.{sat}
+use Rattle.zint.specs.ClampLaws.{clamp_in}
+use Rattle.zint.specs.DiffLaws.{eq_of, le_of, add_ud, sfits_up, sfits_dn}
+use Rattle.zint.specs.OrderLaws.{lt_no}
+use Rattle.zint.specs.ReadLaws.{r_elem}
 use Rattle.zint.specs.RuleLaws.{zneeds}
-use Rattle.lists.specs.DownLaws.{from_none, from_turn, from_below}
+use Rattle.lists.specs.FillLaws.{filled_none, filled_turn, get_d_after}
 use Rattle.lists.specs.Signal.{sample}
 use Rattle.frame_signals.specs.Signals.{two_tap}
-use Rattle.frame_signals.specs.SignalLaws.{two_tap_at, filled_down}
+use Rattle.frame_signals.proofs.two_tap_sum.Invariants.{sample_before}
 use Rattle.frame_signals.proofs.two_tap_sum.Goals as goal
 
-pub loop-i-init : goal.loop-i-init
-loop-i-init c = (search zneeds, (refl, from_none _ _ _))
+-- a number that fits is not held
+held : (z : ℤ) → SFits w16 z → sat w16 z ≡ z
+unfolding sat
+held z f =
+    sym (clamp_in _ _ z z refl (lt_no (le_of z (pos 32767) (omega (arith, sfits_up f)))) (lt_no (le_of (negsuc 32767) z (omega (arith, sfits_dn f)))))
 
-pub loop-i-preserved : goal.loop-i-preserved
+-- a sum by the sample before
+summed : (g : ℕ → ℤ) (i : ℕ) → SFits w16 (g i) → sat w16 (g i +ℤ sample_before g i) ≡ two_tap g i
+unfolding two_tap
+summed g zero f = ap (sat w16) (eq_of (g 0 +ℤ pos 0) (g 0) (omega (arith, add_ud (g 0) (pos 0)))) ∙ held (g 0) f
+summed g (suc i) f = refl
+
+pub loop-place-init : goal.loop-place-init
+loop-place-init c = (refl, (filled_none _ _, refl))
+
+pub loop-place-preserved : goal.loop-place-preserved
 unfolding sample
-loop-i-preserved c =
-    let a = c.args in
-    let l = a.x.now in
+loop-place-preserved c =
+    let l = c.args.x.now in
     let f = two_tap (sample l) in
-    let i = c.loop-i.i in
-    let e = c.loop-i.invariant.1.1 in
-    let under : (j : ℕ) → j < i → get_or c.loop-i.x j (pos 0) ≡ get_or l j (pos 0) =
-    λ j h. ap (λ (t : List ℤ). get_or t j (pos 0)) e ∙ from_below f i a.n l j (pos 0) h (omega arith) in
-    let s = c.silk_add_sat16.result in
-    let r : to_z w16 (of_z w16 s) ≡ sat w16 (get_or c.loop-i.x (i - 1) (pos 0) +ℤ get_or c.loop-i.x (i - 1 - 1) (pos 0)) = search zneeds in
-    let v = r ∙ ap₂ (λ (p q : ℤ). sat w16 (p +ℤ q)) (under (i - 1) (omega arith)) (under (i - 1 - 1) (omega arith)) ∙ sym (two_tap_at (sample l) (i - 1) (omega arith)) in (
-      omega arith,
-      (
-        simp length-set c.loop-i.invariant.1.0,
-        from_turn f i a.n l e v (omega arith) c.loop-i.invariant.0 c.requires,
-      ),
+    let i = c.loop-place.place-index in
+    let e = c.loop-place.invariant.1.0 in
+    let here : get_or c.loop-place.x i (pos 0) ≡ get_or l i (pos 0) = ap (λ (t : List ℤ). get_or t i (pos 0)) e ∙ get_d_after f i l i (pos 0) (omega arith) in
+    let p = r_elem w16 (get_or c.loop-place.x i (pos 0)) (search zneeds) in
+    let r : to_z w16 (of_z w16 c.silk_add_sat16.result) ≡ sat w16 (get_or c.loop-place.x i (pos 0) +ℤ to_z w16 c.loop-place.before-bits) = search zneeds in
+    let v = r ∙ ap₂ (λ (a b : ℤ). sat w16 (a +ℤ b)) here c.loop-place.invariant.1.1 ∙ summed (sample l) i (subst (SFits w16) here p.fit) in (
+      simp length-set c.loop-place.invariant.0,
+      (filled_turn f i l e v (omega arith), p.val ∙ here ∙ ap (sample_before (sample l)) (sym (add-one i))),
     )
-
-pub returns : goal.returns
-unfolding two_tap sample
-returns c =
-    let a = c.args in
-    c.loop-i.invariant.1.1 ∙ filled_down (two_tap (sample a.x.now)) c.loop-i.i a.n a.x.now (omega arith) c.loop-i.invariant.0 c.requires refl

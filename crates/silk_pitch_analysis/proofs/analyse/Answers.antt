@@ -6,6 +6,7 @@ use native.Mathlib.Omega.{arith}
 use lib.IntN.{ℤ}
 use lib.ListN.{length, take}
 use lib.Seq.{length-take-le}
+use Rattle.std.proofs.Common.{take_all}
 use Rattle.lists.specs.Fill.{filled}
 use Rattle.pitch_settings.specs.declared.Settings.{Settings}
 use Rattle.pitch_settings.specs.Settings.{frame_length}
@@ -18,27 +19,35 @@ use Rattle.silk_pitch_analysis.specs.Steps.{VerdictCarried}
 use Rattle.silk_pitch_analysis.specs.VerdictLaws.{first_carried}
 use Rattle.silk_pitch_analysis.proofs.analyse.Goals as goal
 
+-- the samples handed on are as many as the frame needs
+sized : (x : List ℤ) {n m : ℕ} → n ≡ m → m ≤ length x → length (take n x) ≡ m
+sized x {n} e h = length-take-le n x (omega (arith, e, h)) ∙ e
+
 pub frame_shift-shift-requires : goal.frame_shift-shift-requires
 frame_shift-shift-requires c =
     let a = accepted_settings _ c.args.s.analysed in
-    (omega (arith, a.some, a.within, c.frame_length-n.ensures), (omega (arith, c.frame_length-n.ensures, a.small), omega (arith, c.frame_length-n.ensures, c.requires)))
+    let e = sized c.args.frame.now c.frame_length.ensures c.requires in
+    (omega (arith, a.some, a.within, e), omega (arith, e, a.small))
 
 pub scale_into-requires : goal.scale_into-requires
 scale_into-requires c =
-    (omega (arith, c.frame_length-n.ensures, c.requires), (omega (arith, c.frame_length-n.ensures, (accepted_settings _ c.args.s.analysed).small), c.frame_shift-shift.ensures.1))
+    (omega (arith, sized c.args.frame.now c.frame_length.ensures c.requires, (accepted_settings _ c.args.s.analysed).small), c.frame_shift-shift.ensures.1)
 
 pub working_frame-w-requires : goal.working_frame-w-requires
 working_frame-w-requires c =
-    (omega (arith, c.frame_length-n.ensures, c.requires), omega (arith, c.frame_length-n.ensures, (accepted_settings _ c.args.s.analysed).small, c.scale_into.auto.scratch))
+    omega (arith, sized c.args.frame.now c.frame_length.ensures c.requires, (accepted_settings _ c.args.s.analysed).small, c.scale_into.auto.scratch)
 
--- the working frame w, of the first n samples of x, with the shift k and the scratch as they were computed
-working : (s : Settings) (x l : List ℤ) (n : ℕ) {k : ℕ} {scratch w : List ℤ} → n ≤ length x → n ≡ frame_length s → k ≡ down_shift (take n x) → scratch ≡ filled (shifted_at x k) (moved_count k n) l
-    → w ≡ take n (holder k x scratch) → w ≡ scaled (take (frame_length s) x)
-working s x l n h e f g q = q ∙ working_scaled x l n h f g ∙ ap (λ (m : ℕ). scaled (take m x)) e
+-- the working frame w, of the samples y, with the shift k and the scratch as they were computed
+working : (s : Settings) (x l : List ℤ) {n k : ℕ} {scratch w : List ℤ} → n ≡ frame_length s → k ≡ down_shift (take n x) → scratch ≡ filled (shifted_at (take n x) k) (moved_count k (length (take n x))) l
+    → w ≡ take (length (take n x)) (holder k (take n x) scratch) → w ≡ scaled (take (frame_length s) x)
+working s x l {n} e f g q =
+    let y = take n x in
+    let whole : take (length y) y ≡ y = take_all (length y) y (omega arith) in
+    q ∙ working_scaled y l (length y) (omega arith) (f ∙ ap down_shift (sym whole)) g ∙ ap scaled whole ∙ ap (λ (m : ℕ). scaled (take m x)) e
 
 pub analyse_working-requires : goal.analyse_working-requires
 analyse_working-requires c =
-    let e = working c.args.s.settings c.args.frame.now _ c.frame_length-n.result (omega (arith, c.frame_length-n.ensures, c.requires)) c.frame_length-n.ensures c.frame_shift-shift.ensures.0 c.scale_into.ensures c.working_frame-w.ensures in
+    let e = working c.args.s.settings c.args.frame.now _ c.frame_length.ensures c.frame_shift-shift.ensures.0 c.scale_into.ensures c.working_frame-w.ensures in
     ap length e ∙ length_scaled (take (frame_length c.args.s.settings) c.args.frame.now) ∙ length-take-le (frame_length c.args.s.settings) c.args.frame.now c.requires
 
 -- the verdict of the working frame
@@ -49,6 +58,6 @@ verdict s x prev corr e h = h ∙ (λ i. staged s (e i) prev corr)
 pub returns : goal.returns
 returns c =
     let a = c.args in
-    let w = working a.s.settings a.frame.now _ c.frame_length-n.result (omega (arith, c.frame_length-n.ensures, c.requires)) c.frame_length-n.ensures c.frame_shift-shift.ensures.0 c.scale_into.ensures c.working_frame-w.ensures in
+    let w = working a.s.settings a.frame.now _ c.frame_length.ensures c.frame_shift-shift.ensures.0 c.scale_into.ensures c.working_frame-w.ensures in
     let v = verdict a.s.settings a.frame.now a.prev.lag a.prev.correlation w c.analyse_working.ensures in
     record { verdict = v; carried = subst (VerdictCarried a.s.settings) (sym v) (first_carried a.s.settings a.frame.now a.s.analysed c.requires a.prev.lag a.prev.correlation) }
