@@ -1,4 +1,4 @@
--- `stage3::consider` meets its contract, way by way.
+-- `stage3::PairSearch::consider` meets its contract, way by way.
 use Rattle.std.specs.Prelude.{Some, Option}
 use mathlib.Core.Path.{◌≡◌, sym, ap, ap₂, ◌∙◌}
 use mathlib.Core.Bool.{Bool, true, false}
@@ -13,7 +13,7 @@ use Rattle.silk_tables.proofs.TableLaws.{in_use_bounds}
 use Rattle.stage3.specs.Pick.{quotient_of, biased}
 use Rattle.stage3.specs.SearchLaws.{stopped, better, lower, beyond, passed}
 use Rattle.zint.specs.RuleLaws.{zneeds}
-use Rattle.stage3.proofs.consider.Goals as goal
+use Rattle.stage3.proofs.pair_search.PairSearch.consider.Goals as goal
 
 -- the parameters as the code reads them
 module _ {x e b : ℤ} (fx : SFits w32 x) (fe : SFits w32 e) (fb : SFits w32 b) where
@@ -39,9 +39,7 @@ returns-in_err-q c =
 
 pub mark_down-cc_max_new-requires : goal.mark_down-cc_max_new-requires
 mark_down-cc_max_new-requires c =
-    let r = c.requires.tried_pair in
-    let u = in_use_bounds r.settings in
-    let h : c.args.j < 34 = omega (arith, u, r.used) in
+    let h : c.args.j < 34 = omega (arith, in_use_bounds c.args.self.codebook.settings, c.requires.used) in
     let b = c.requires.pos_bound in
     r_holds (λ (x : ℤ). (pos 0 ≤ℤ x) × ((x ≤ℤ pos 68) × (c.args.j < 34))) (r_var c.ranges.contour_bias_q15) (b.0, (b.1, h))
 
