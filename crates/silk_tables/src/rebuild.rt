@@ -4,7 +4,7 @@ ghost use Rattle.std.specs.Prelude.{◌≡◌, [], ◌∷◌, ◌⊎◌, ◌<◌
 ghost use Rattle.answers.specs.Answer.{answer_numbers};
 ghost use Rattle.silk_tables.specs.Rebuild.{lag_max, book_entries, book, rebuilt, Coded, carried, rebuild_call, rebuilt_numbers, rebuilt_number};
 
-use crate::{PE_MAX_LAG_MS, SILK_PE_MAX_COMPLEX};
+use crate::{Codebook, PE_MAX_LAG_MS, SILK_PE_MAX_COMPLEX};
 use pitch_settings::Settings;
 
 // The greatest lag that a pair can stand for.
@@ -23,7 +23,11 @@ fn codebook_offset(fs_khz: usize, nb_subfr: usize, k: usize, contour_index: usiz
     if fs_khz == 8 {
         crate::lag_cb_stage2(nb_subfr, k, contour_index)
     } else {
-        crate::lag_cb(nb_subfr, SILK_PE_MAX_COMPLEX, k, contour_index)
+        let book = Codebook {
+            nb: nb_subfr,
+            complexity: SILK_PE_MAX_COMPLEX,
+        };
+        book.lag_cb(k, contour_index)
     }
 }
 

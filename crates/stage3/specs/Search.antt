@@ -1,14 +1,13 @@
 -- The search from the front, as the code goes: what one pair more makes of it, and what is known after n pairs. The contracts of private functions cite it; nothing here is
 -- part of what stage 3 means.
-use Rattle.std.specs.Prelude.{Option, Some, None, ◌≡◌, Bool, true, false, ◌&&◌, cond, List, [], ℕ, ◌-◌, ◌<◌, ◌≤◌, ℤ, pos, get_or}
+use Rattle.std.specs.Prelude.{Option, Some, None, ◌≡◌, Bool, true, false, ◌&&◌, cond, List, [], ℕ, ◌-◌, ◌<◌, ℤ, pos, get_or}
 use Rattle.std.specs.Int.Signed.{lt_z}
 use Rattle.zint.specs.Minus.{minus}
-use Rattle.silk_tables.specs.Tables.{TableSettings, in_use, least_lag, greatest_lag}
 use Rattle.best.specs.Best.{Place}
 use Rattle.best.proofs.BestOfLaws as laws
-use Rattle.stage3.specs.Pick.{Pair, Choice, first_tried, quotient_of, bias_of, biased, zero_no, candidate_no, score_no, pair_at}
+use Rattle.stage3.specs.Pick.{Pair, Choice, first_tried, quotient_of, biased, zero_no, candidate_no, score_no, pair_at}
 use Rattle.stage3.specs.declared.BestSoFar.{BestSoFar}
-use Rattle.stage3.specs.declared.PairSearch.{PairSearch}
+use Rattle.stage3.specs.declared.pair_search.PairSearch.{PairSearch}
 use Rattle.stage3.specs.Stage3.{sat_sum}
 
 -- a place of a nested array, and the sum over the subframes at a lag and a contour
@@ -23,11 +22,11 @@ abbrev pub array_choice : List (List (List ℤ)) → List (List (List ℤ)) → 
 array_choice X E e by =
     record {
       fs = by.fs;
-      nb = by.nb;
-      cx = by.complexity;
+      nb = by.codebook.nb;
+      cx = by.codebook.complexity;
       lag = by.lag;
-      cross = summed (pos 0) X by.nb (first_tried by.fs by.lag);
-      energy = summed e E by.nb (first_tried by.fs by.lag);
+      cross = summed (pos 0) X by.codebook.nb (first_tried by.fs by.lag);
+      energy = summed e E by.codebook.nb (first_tried by.fs by.lag);
     }
 
 -- one pair more: the quotient is taken where the cross-correlation is positive
@@ -38,23 +37,6 @@ with_quotient b bias d j reach (Some q) =
 
 unfoldable pub with_pair : BestSoFar → ℤ → ℤ → ℤ → ℕ → ℕ → Bool → Option BestSoFar
 with_pair b x e bias d j reach = cond (lt_z (pos 0) x) (with_quotient b bias d j reach (quotient_of x e)) (Some b)
-
--- what a scan is handed
-pub record Scanned (bias : ℤ) (by : PairSearch) : Type 0 where
-  pub settings : TableSettings by.nb by.complexity
-  pub rate_low : 12 ≤ by.fs
-  pub rate_high : by.fs ≤ 16
-  pub lag_low : least_lag by.fs ≤ by.lag
-  pub lag_high : by.lag ≤ greatest_lag by.fs
-  pub bias_is : bias ≡ bias_of by.lag
-
--- a pair that is tried: settings with tables, a contour in use, a lag up to the greatest
-pub record TriedPair (by : PairSearch) (d j : ℕ) : Type 0 where
-  pub settings : TableSettings by.nb by.complexity
-  pub rate_low : 12 ≤ by.fs
-  pub rate_high : by.fs ≤ 16
-  pub lag_high : d ≤ greatest_lag by.fs
-  pub used : j < in_use by.nb by.complexity
 
 -- after n pairs: b has the best of them, and no divisor was zero
 pub record BestOfFirst (c : Choice) (n : ℕ) (b : BestSoFar) : Type 0 where

@@ -23,7 +23,7 @@ use Rattle.best.proofs.BestOfLaws.{search_start, search_skip, search_better, sea
 use Rattle.best.proofs.BestOfLaws as laws
 use Rattle.stage3.specs.Pick.{Pair, ZeroDivisor, Found, Choice, first_tried, last_tried, tried, quotient_of, bias_of, biased, score_of, used_in, zero_reached3, reached, candidate, score, zero_no, candidate_no, score_no, lag_no, contour_no, pair_count, pair_at, zero3, best3, pick}
 use Rattle.stage3.specs.declared.BestSoFar.{BestSoFar}
-use Rattle.stage3.specs.declared.PairSearch.{PairSearch}
+use Rattle.stage3.specs.declared.pair_search.PairSearch.{PairSearch}
 use Rattle.stage3.specs.Stage3.{energy_target, cross3, energy3, stage3, Handed}
 use Rattle.stage3.specs.Search.{at3, summed, array_choice, with_quotient, with_pair, BestOfFirst, AfterFirst}
 use Rattle.stage3.specs.PickLaws.{score_above, sat_sum_ext, few_lags}
@@ -262,28 +262,28 @@ pick_ext c x e u hx he =
     at_pair h p l = h _ _ (lag_first c u p l) (lag_last c u p l) (contour_used c u p l)
 
 -- over the arrays that stage 3 fills it is what stage 3 means
-module _ (w : List ℤ) (by : PairSearch) (r : Handed w by.fs by.nb by.complexity by.lag) where
+module _ (w : List ℤ) (by : PairSearch) (r : Handed w by.fs by.codebook.nb by.codebook.complexity by.lag) where
   abbrev first : ℕ
   first = first_tried by.fs by.lag
 
   -- a place of an array that holds f, counted from the first lag tried
-  array_at : (f : ℕ → ℕ → ℕ → ℤ) (k d j : ℕ) → k < by.nb → d ≤ last_tried by.fs by.lag → j < in_use by.nb by.complexity
-      → at3 (frame_array by.nb (in_use by.nb by.complexity) f) k j (d - first) ≡ f k j (d - first)
-  array_at f k d j hk h hj = frame_array_at by.nb (in_use by.nb by.complexity) f k j (d - first) hk hj (few_lags by.fs by.lag d r.lag_low h)
+  array_at : (f : ℕ → ℕ → ℕ → ℤ) (k d j : ℕ) → k < by.codebook.nb → d ≤ last_tried by.fs by.lag → j < in_use by.codebook.nb by.codebook.complexity
+      → at3 (frame_array by.codebook.nb (in_use by.codebook.nb by.codebook.complexity) f) k j (d - first) ≡ f k j (d - first)
+  array_at f k d j hk h hj = frame_array_at by.codebook.nb (in_use by.codebook.nb by.codebook.complexity) f k j (d - first) hk hj (few_lags by.fs by.lag d r.lag_low h)
 
   pub array_pick : {x : Found} {X E : List (List (List ℤ))} {e : ℤ} {n : ℕ} → x ≡ pick (array_choice X E e by) → n ≡ first
-      → X ≡ frame_array by.nb (in_use by.nb by.complexity) (λ k j m. cross_at w by.fs by.nb k j (n + m))
-      → E ≡ frame_array by.nb (in_use by.nb by.complexity) (energy_at w by.fs by.nb by.complexity n)
-      → e ≡ energy_target w by.fs by.nb → x ≡ stage3 w by.fs by.nb by.complexity by.lag
+      → X ≡ frame_array by.codebook.nb (in_use by.codebook.nb by.codebook.complexity) (λ k j m. cross_at w by.fs by.codebook.nb k j (n + m))
+      → E ≡ frame_array by.codebook.nb (in_use by.codebook.nb by.codebook.complexity) (energy_at w by.fs by.codebook.nb by.codebook.complexity n)
+      → e ≡ energy_target w by.fs by.codebook.nb → x ≡ stage3 w by.fs by.codebook.nb by.codebook.complexity by.lag
   unfolding stage3 cross3 energy3 summed
   array_pick {x} {X} {E} {e} {n} p f q s t =
       let u = in_use_bounds r.settings in
-      let c = in_use by.nb by.complexity in
-      let q' = q ∙ ap (λ (i : ℕ). frame_array by.nb c (λ k j m. cross_at w by.fs by.nb k j (i + m))) f in
-      let s' = s ∙ ap (λ (i : ℕ). frame_array by.nb c (energy_at w by.fs by.nb by.complexity i)) f in
+      let c = in_use by.codebook.nb by.codebook.complexity in
+      let q' = q ∙ ap (λ (i : ℕ). frame_array by.codebook.nb c (λ k j m. cross_at w by.fs by.codebook.nb k j (i + m))) f in
+      let s' = s ∙ ap (λ (i : ℕ). frame_array by.codebook.nb c (energy_at w by.fs by.codebook.nb by.codebook.complexity i)) f in
       p ∙ (λ i. pick (array_choice (q' i) (s' i) (t i) by))
-      ∙ pick_ext _ (cross3 w by.fs by.nb) (energy3 w by.fs by.nb by.complexity by.lag) (omega arith)
-      (λ d j l h hj. sat_sum_ext (pos 0) _ _ by.nb (λ k hk.
+      ∙ pick_ext _ (cross3 w by.fs by.codebook.nb) (energy3 w by.fs by.codebook.nb by.codebook.complexity by.lag) (omega arith)
+      (λ d j l h hj. sat_sum_ext (pos 0) _ _ by.codebook.nb (λ k hk.
       let g : first + (d - first) ≡ d = omega arith in
-      array_at (λ k j m. cross_at w by.fs by.nb k j (first + m)) k d j hk h hj ∙ ap (cross_at w by.fs by.nb k j) g))
-      (λ d j l h hj. sat_sum_ext (energy_target w by.fs by.nb) _ _ by.nb (λ k hk. array_at (energy_at w by.fs by.nb by.complexity first) k d j hk h hj))
+      array_at (λ k j m. cross_at w by.fs by.codebook.nb k j (first + m)) k d j hk h hj ∙ ap (cross_at w by.fs by.codebook.nb k j) g))
+      (λ d j l h hj. sat_sum_ext (energy_target w by.fs by.codebook.nb) _ _ by.codebook.nb (λ k hk. array_at (energy_at w by.fs by.codebook.nb by.codebook.complexity first) k d j hk h hj))

@@ -15,6 +15,7 @@ use Rattle.silk_tables.specs.ContourLaws.{greatest_lag_le}
 use Rattle.stage3.specs.SearchLaws.{array_pick}
 use Rattle.stage3.specs.NumberLaws.{and_numbers}
 use Rattle.zint.specs.RuleLaws.{zneeds}
+use Rattle.stage3.specs.declared.pair_search.PairSearch.{PairSearch}
 use native.Mathlib.Omega.{arith}
 use Rattle.stage3.proofs.search_stage3.Goals as goal
 
@@ -30,11 +31,23 @@ module _ {w : List ℤ} {fs nb cx lag : ℕ} (r : LagInFrame w fs nb cx lag) whe
       let h = last_le fs lag in
       record { settings = r.settings; rate_low = r.rate_low; rate_high = r.rate_high; long = r.long; lag_low = omega (arith, l, f); lag_high = omega (arith, u, h, f) }
 
-pub silk_p_ana_calc_corr_st3-cross_corr_st3-requires : goal.silk_p_ana_calc_corr_st3-cross_corr_st3-requires
-silk_p_ana_calc_corr_st3-cross_corr_st3-requires c = start_in c.requires c.start_lag-first.ensures
+-- where the search looks
+abbrev by : {w : List ℤ} {fs nb cx lag : ℕ} → LagInFrame w fs nb cx lag → PairSearch
+by {w} {fs} {nb} {cx} {lag} r = record {
+  fs = fs;
+  codebook = record { nb = nb; complexity = cx; settings = r.settings };
+  lag = lag;
+  rate_low = r.rate_low;
+  rate_high = r.rate_high;
+  lag_low = r.lag_low;
+  lag_high = r.lag_high;
+}
 
-pub silk_p_ana_calc_energy_st3-energies_st3-requires : goal.silk_p_ana_calc_energy_st3-energies_st3-requires
-silk_p_ana_calc_energy_st3-energies_st3-requires c = start_in c.requires c.start_lag-first.ensures
+pub invariant_of-by : goal.invariant_of-by
+invariant_of-by c = record { settings = c.requires.settings }
+
+pub invariant_of-at : goal.invariant_of-at
+invariant_of-at c = record { in_frame = start_in c.requires c.start_lag.ensures }
 
 pub silk_div32_16-contour_bias_q15-requires : goal.silk_div32_16-contour_bias_q15-requires
 silk_div32_16-contour_bias_q15-requires c =
@@ -49,19 +62,16 @@ scan_lags-requires c =
     let r = c.requires in
     let d = c.silk_div32_16-contour_bias_q15 in
     let b = (r_got w32 d.type_inv (d.ensures ∙ ap (quot_z (pos 1638)) (r_nat w32 c.args.lag (omega (arith, lag_small r))).val)).val in
-    record { settings = r.settings; rate_low = r.rate_low; rate_high = r.rate_high; lag_low = r.lag_low; lag_high = r.lag_high; bias_is = b }
+    b
 
 pub returns : goal.returns
 returns c =
     let a = c.args in
     let t = c.target_energy-energy_target in
     let b = and_numbers _ _ _ _ _ (answer_of c.scan_lags.result)
-    (array_pick a.frame.now (record { fs = a.s.rate; nb = a.s.nb; complexity = a.s.complexity; lag = a.lag }) c.requires c.scan_lags.ensures
-    c.start_lag-first.ensures c.silk_p_ana_calc_corr_st3-cross_corr_st3.ensures c.silk_p_ana_calc_energy_st3-energies_st3.ensures (r_got w32 t.type_inv t.ensures).val) in
+    (array_pick a.frame.now (by c.requires) c.requires c.scan_lags.ensures
+    c.start_lag.ensures c.silk_p_ana_calc_corr_st3-cross_corr_st3.ensures c.silk_p_ana_calc_energy_st3-energies_st3.ensures (r_got w32 t.type_inv t.ensures).val) in
     record { value = b.0; numbers = b.1 }
-
-pub start_lag-first-requires : goal.start_lag-first-requires
-start_lag-first-requires c = search zneeds
 
 pub overflow_cast-lag : goal.overflow_cast-lag
 overflow_cast-lag c = record { sfits = omega (arith, lag_small c.requires) }

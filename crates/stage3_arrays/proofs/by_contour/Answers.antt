@@ -1,92 +1,73 @@
--- `stage3_arrays::by_contour` meets its contract: the places by the row of the table that nb chooses.
-use Rattle.std.specs.Prelude.{◌≢◌}
+-- `stage3_arrays::by_contour` meets its contract: the places by the codebook's row.
 use mathlib.Core.Path.{◌≡◌, sym, ap, ◌∙◌, subst}
-use mathlib.Core.List.{List, []}
+use mathlib.Core.List.{List}
 use Prim.Native.Nat.{ℕ, ◌+◌, ◌≤◌, ◌<◌}
 use lib.IntN.{ℤ, pos, nat_abs, ◌-ℤ◌}
-use lib.ListN.{get_or}
+use lib.ListN.{length, get_or}
 use mir.Syntax.{w32}
-use Rattle.zint.specs.ReadLaws.{r_got}
-use Rattle.zint.specs.RuleLaws.{zneeds}
-use Rattle.silk_tables.specs.Tables.{TableSettings, cb_lags_stage3, cb_lags_stage3_10_ms, in_use, offset, range_low, range_place}
-use Rattle.silk_tables.proofs.TableLaws.{in_use_bounds, in_use_other, two_of, place_fits, place_nonneg, place_total, total_le}
-use Rattle.silk_tables.specs.EntryLaws.{entry_4, entry_2}
+use mir.Val.{to_z, of_z}
+use Rattle.std.specs.Prelude.{take}
+use Rattle.std.proofs.lemmas.List.{get_or-take, length-take}
+use Rattle.zint.specs.ReadLaws.{r_is}
+use Rattle.lists.specs.Fill.{tabulate}
+use Rattle.lists.specs.FillLaws.{length_tabulate, get_d_tabulate}
+use Rattle.silk_tables.specs.Tables.{TableSettings, in_use, offset, range_low, range_place}
+use Rattle.silk_tables.proofs.TableLaws.{in_use_bounds, low_fits, place_fits, place_nonneg, place_total, total_le}
 use Rattle.stage3_arrays.specs.Arrays.{subframe_array, Placed}
+use Rattle.stage3_arrays.specs.ArrayLaws.{array_ext}
 use native.Mathlib.Omega.{arith}
 use Rattle.stage3_arrays.proofs.by_contour.Goals as goal
 
--- a row of offsets, and the range's start as the code has it
-module _ {nb cx k : ℕ} (s : TableSettings nb cx) (h : k < nb) (row : List ℤ) (e : (j : ℕ) → get_or row j (pos 0) ≡ offset nb k j) {l : ℤ} (f : l ≡ range_low nb cx k) where
+-- the offsets in use, and the range's start, as the code has them
+module _ {nb cx : ℕ} (k : ℕ) (s : TableSettings nb cx) {row : List ℤ} (e : row ≡ tabulate (offset nb k) 34) {n : ℕ} (m : n ≡ in_use nb cx) where
+  used : length (take n row) ≡ in_use nb cx
+  used = omega (arith, length-take n row, ap length e, length_tabulate (offset nb k) 34, in_use_bounds s)
+
+  is_offset : (j : ℕ) → j < in_use nb cx → get_or (take n row) j (pos 0) ≡ offset nb k j
+  is_offset j i =
+      get_or-take n row j (pos 0) (omega arith)
+      ∙ ap (λ (r : List ℤ). get_or r j (pos 0)) e
+      ∙ get_d_tabulate (offset nb k) 34 j (pos 0) (omega (arith, in_use_bounds s))
+
+module _ {nb cx k : ℕ} (s : TableSettings nb cx) (h : k < nb) {row : List ℤ} (e : row ≡ tabulate (offset nb k) 34) {n : ℕ} (m : n ≡ in_use nb cx) {l : ℤ} (f : l ≡ range_low nb cx k) where
+  low : to_z w32 (of_z w32 l) ≡ range_low nb cx k
+  low = (r_is f (low_fits s h)).val
+
   -- each offset in use has its five places
-  row-placed : (n j : ℕ) → n ≡ in_use nb cx → j < n → Placed (get_or row j (pos 0)) l
+  row_placed : (j : ℕ) → j < length (take n row) → Placed (get_or (take n row) j (pos 0)) (to_z w32 (of_z w32 l))
   unfolding range_place
-  row-placed n j m g =
-      let i : j < in_use nb cx = omega arith in
-      let t = place_total s h j i in
-      let u : nat_abs (offset nb k j -ℤ range_low nb cx k) + 5 ≤ 22 = omega (arith, t, total_le s h) in
+  row_placed j g =
+      let i : j < in_use nb cx = omega (arith, used k s e m) in
+      let u : nat_abs (offset nb k j -ℤ range_low nb cx k) + 5 ≤ 22 = omega (arith, place_total s h j i, total_le s h) in
       let p : Placed (offset nb k j) (range_low nb cx k) = record {
         within = place_fits s h j i;
         from_low = place_nonneg s h j i;
         five_more = u;
       } in
-      subst (λ (x : ℤ). Placed x l) (sym (e j)) (subst (Placed (offset nb k j)) (sym f) p)
+      subst (λ (x : ℤ). Placed x (to_z w32 (of_z w32 l))) (sym (is_offset k s e m j i)) (subst (Placed (offset nb k j)) (sym low) p)
 
   -- and they are those of the contour
-  row-rows : (mem : List ℤ) (n : ℕ) → n ≡ in_use nb cx → subframe_array n (λ (j m : ℕ). get_or mem (nat_abs (get_or row j (pos 0) -ℤ l) + m) (pos 0)) ≡ subframe_array (in_use nb cx) (λ (j m : ℕ). get_or mem (range_place nb cx k j + m) (pos 0))
+  row_rows : (mem : List ℤ) → subframe_array (length (take n row)) (λ (j q : ℕ). get_or mem (nat_abs (get_or (take n row) j (pos 0) -ℤ to_z w32 (of_z w32 l)) + q) (pos 0))
+      ≡ subframe_array (in_use nb cx) (λ (j q : ℕ). get_or mem (range_place nb cx k j + q) (pos 0))
   unfolding range_place
-  row-rows mem n m = λ i. subframe_array (m i) (λ (j q : ℕ). get_or mem (nat_abs (e j i -ℤ f i) + q) (pos 0))
+  row_rows mem =
+      ap (λ (c : ℕ). subframe_array c (λ (j q : ℕ). get_or mem (nat_abs (get_or (take n row) j (pos 0) -ℤ to_z w32 (of_z w32 l)) + q) (pos 0))) (used k s e m)
+      ∙ array_ext (in_use nb cx) _ _ (λ j q i g. λ t. get_or mem (nat_abs (is_offset k s e m j i t -ℤ low t) + q) (pos 0))
 
--- a row of four subframes, and of two, as the code has it
-row_4 : (nb k : ℕ) {row : List ℤ} → row ≡ get_or cb_lags_stage3 k [] → nb ≡ 4 → (j : ℕ) → get_or row j (pos 0) ≡ offset nb k j
-unfolding offset
-row_4 nb k e h j = ap (λ (r : List ℤ). get_or r j (pos 0)) e ∙ sym (entry_4 cb_lags_stage3 cb_lags_stage3_10_ms nb k j h)
+pub slice_bounds-offsets-end : goal.slice_bounds-offsets-end
+slice_bounds-offsets-end c = omega (arith, c.nb_cbk_search-nb_cbk_search.ensures, in_use_bounds c.args.codebook.settings)
 
-row_2 : (nb k : ℕ) {row : List ℤ} → row ≡ get_or cb_lags_stage3_10_ms k [] → nb ≢ 4 → (j : ℕ) → get_or row j (pos 0) ≡ offset nb k j
-unfolding offset
-row_2 nb k e h j = ap (λ (r : List ℤ). get_or r j (pos 0)) e ∙ sym (entry_2 cb_lags_stage3 cb_lags_stage3_10_ms nb k j h)
+pub slice_bounds-spread-end : goal.slice_bounds-spread-end
+slice_bounds-spread-end c =
+    let e = c.nb_cbk_search-nb_cbk_search.ensures in
+    omega (arith, e, used c.args.k c.args.codebook.settings c.row-offsets.ensures e)
 
 pub spread-requires : goal.spread-requires
 spread-requires c =
+    let s = c.args.codebook.settings in
+    let e = c.row-offsets.ensures in
     let n = c.nb_cbk_search-nb_cbk_search.ensures in
-    let b = in_use_bounds c.requires.0 in
-    let row = row_4 c.args.nb_subfr c.args.k c.cb_lags_stage3-offsets.ensures c.if-nb_subfr-eq4.true in
-    let low = (r_got w32 c.lag_low-low.type_inv c.lag_low-low.ensures).val in
-    (omega arith, (omega arith, λ j g. row-placed c.requires.0 c.requires.1 c.cb_lags_stage3-offsets.result row low _ j n g))
-
-pub returns-then-nb_subfr-eq4 : goal.returns-then-nb_subfr-eq4
-returns-then-nb_subfr-eq4 c =
-    let row = row_4 c.args.nb_subfr c.args.k c.cb_lags_stage3-offsets.ensures c.if-nb_subfr-eq4.true in
-    let low = (r_got w32 c.lag_low-low.type_inv c.lag_low-low.ensures).val in
-    c.spread.ensures ∙ row-rows c.requires.0 c.requires.1 c.cb_lags_stage3-offsets.result row low c.args.scratch_mem.now _ c.nb_cbk_search-nb_cbk_search.ensures
-
-pub cb_lags_stage3_10_ms-offsets-requires : goal.cb_lags_stage3_10_ms-offsets-requires
-cb_lags_stage3_10_ms-offsets-requires c = let e = two_of c.requires.0 c.if-nb_subfr-eq4.false in omega arith
-
-pub spread-requires-2 : goal.spread-requires-2
-spread-requires-2 c =
-    let n = c.nb_cbk_search-nb_cbk_search.ensures in
-    let e = in_use_other c.args.nb_subfr c.args.complexity c.if-nb_subfr-eq4.false in
-    let row = row_2 c.args.nb_subfr c.args.k c.cb_lags_stage3_10_ms-offsets.ensures c.if-nb_subfr-eq4.false in
-    let low = (r_got w32 c.lag_low-low.type_inv c.lag_low-low.ensures).val in
-    (omega arith, (omega arith, λ j g. row-placed c.requires.0 c.requires.1 c.cb_lags_stage3_10_ms-offsets.result row low _ j n g))
+    (omega (arith, used c.args.k s e n, in_use_bounds s), row_placed s c.requires e n c.lag_range.ensures.low)
 
 pub returns : goal.returns
-returns c =
-    let row = row_2 c.args.nb_subfr c.args.k c.cb_lags_stage3_10_ms-offsets.ensures c.if-nb_subfr-eq4.false in
-    let low = (r_got w32 c.lag_low-low.type_inv c.lag_low-low.ensures).val in
-    c.spread-2.ensures ∙ row-rows c.requires.0 c.requires.1 c.cb_lags_stage3_10_ms-offsets.result row low c.args.scratch_mem.now _ c.nb_cbk_search-nb_cbk_search.ensures
-
-pub nb_cbk_search-nb_cbk_search-requires : goal.nb_cbk_search-nb_cbk_search-requires
-nb_cbk_search-nb_cbk_search-requires c = search zneeds
-
-pub lag_low-low-requires : goal.lag_low-low-requires
-lag_low-low-requires c = search zneeds
-
-pub cb_lags_stage3-offsets-requires : goal.cb_lags_stage3-offsets-requires
-cb_lags_stage3-offsets-requires c = search zneeds
-
-pub slice_bounds-spread-end : goal.slice_bounds-spread-end
-slice_bounds-spread-end c = search zneeds
-
-pub slice_bounds-spread-end-2 : goal.slice_bounds-spread-end-2
-slice_bounds-spread-end-2 c = search zneeds
+returns c = c.spread.ensures ∙ row_rows c.args.codebook.settings c.requires c.row-offsets.ensures c.nb_cbk_search-nb_cbk_search.ensures c.lag_range.ensures.low c.args.scratch_mem.now

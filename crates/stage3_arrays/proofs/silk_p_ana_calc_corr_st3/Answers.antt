@@ -1,11 +1,7 @@
 -- `stage3_arrays::silk_p_ana_calc_corr_st3` meets its contract.
 use mathlib.Core.Path.{◌∙◌}
 use Rattle.stage3_arrays.specs.ArrayLaws.{cross_array}
-use Rattle.zint.specs.RuleLaws.{zneeds}
 use Rattle.stage3_arrays.proofs.silk_p_ana_calc_corr_st3.Goals as goal
 
 pub returns : goal.returns
-returns c = c.by_subframe.ensures ∙ cross_array _ _ _ _ _ c.requires
-
-pub by_subframe-requires : goal.by_subframe-requires
-by_subframe-requires c = search zneeds
+returns c = c.by_subframe.ensures ∙ cross_array _ _ _ _ _ c.args.at.in_frame

@@ -1,11 +1,7 @@
 -- `stage3_arrays::silk_p_ana_calc_energy_st3` meets its contract.
 use mathlib.Core.Path.{◌∙◌}
 use Rattle.stage3_arrays.specs.ArrayLaws.{energy_array}
-use Rattle.zint.specs.RuleLaws.{zneeds}
 use Rattle.stage3_arrays.proofs.silk_p_ana_calc_energy_st3.Goals as goal
 
 pub returns : goal.returns
 returns c = c.by_subframe.ensures ∙ energy_array _ _ _ _ _
-
-pub by_subframe-requires : goal.by_subframe-requires
-by_subframe-requires c = search zneeds

@@ -5,7 +5,6 @@ use Rattle.zint.specs.ReadLaws.{r_var, r_call1, r_call2}
 use Rattle.zint.specs.Wrap.{wrap}
 use Rattle.stage3_arrays.specs.Arrays.{step}
 use Rattle.zint.specs.Clamp.{sat}
-use Rattle.zint.specs.RuleLaws.{zneeds}
 use Rattle.stage3_arrays.proofs.slide.Goals as goal
 
 pub returns : goal.returns
@@ -16,15 +15,3 @@ returns c =
     let d = r_call2 w32 (λ (x y : ℤ). wrap w32 (x -ℤ y)) c.wrapping_sub_i32.type_inv (r_var f.energy) g c.wrapping_sub_i32.ensures in
     let k = r_call1 w32 (λ (x : ℤ). x *ℤ x) c.square-2.type_inv (r_var f.come) c.square-2.ensures in
     (r_call2 w32 (λ (x y : ℤ). sat w32 (x +ℤ y)) c.silk_add_sat32.type_inv d k c.silk_add_sat32.ensures).val
-
-pub square-requires : goal.square-requires
-square-requires c = search zneeds
-
-pub wrapping_sub_i32-requires : goal.wrapping_sub_i32-requires
-wrapping_sub_i32-requires c = search zneeds
-
-pub square-requires-2 : goal.square-requires-2
-square-requires-2 c = search zneeds
-
-pub silk_add_sat32-requires : goal.silk_add_sat32-requires
-silk_add_sat32-requires c = search zneeds

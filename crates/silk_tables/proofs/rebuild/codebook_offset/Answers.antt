@@ -16,7 +16,7 @@ lag_cb_stage2-requires c =
 pub lag_cb-requires : goal.lag_cb-requires
 lag_cb-requires c =
     let e = entries_other c.args.fs_khz c.args.nb_subfr c.if-fs_khz-eq8.false in
-    (settings_of c.requires.0 (lit≤ tt), (c.requires.1.0, omega arith))
+    (c.requires.1.0, omega arith)
 
 pub returns-then-fs_khz-eq8 : goal.returns-then-fs_khz-eq8
 returns-then-fs_khz-eq8 c =
@@ -27,3 +27,6 @@ pub returns-else-fs_khz-eq8 : goal.returns-else-fs_khz-eq8
 returns-else-fs_khz-eq8 c =
     let a = c.args in
     (r_got w32 c.lag_cb.type_inv c.lag_cb.ensures).val ∙ sym (book_other a.fs_khz a.nb_subfr a.k a.contour_index c.if-fs_khz-eq8.false)
+
+pub invariant_of-book : goal.invariant_of-book
+invariant_of-book c = record { settings = settings_of c.requires.0 (lit≤ tt) }

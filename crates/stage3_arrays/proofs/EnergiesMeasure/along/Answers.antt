@@ -1,0 +1,41 @@
+-- `stage3_arrays::EnergiesMeasure::along` meets its contract. The invariant: the array is filled below i, and the energy is the last one stored.
+use Rattle.stage3_arrays.specs.ArrayLaws.{running_at}
+use mathlib.Core.Path.{◌≡◌, sym, ap, ◌∙◌}
+use Prim.Native.Nat.{ℕ, ◌+◌, ◌-◌}
+use lib.IntN.{pos}
+use lib.ListN.{replicate}
+use mir.Syntax.{w16, w32}
+use Rattle.zint.specs.ReadLaws.{r_got, r_elem}
+use Rattle.lists.specs.Fill.{filled}
+use Rattle.lists.specs.FillLaws.{filled_none, filled_turn}
+use Rattle.stage3_arrays.specs.Arrays.{running, step}
+use native.Mathlib.Omega.{arith}
+use Rattle.stage3_arrays.proofs.EnergiesMeasure.along.Goals as goal
+
+pub loop-i-init : goal.loop-i-init
+unfolding running
+loop-i-init c =
+    let a = c.args in
+    let w = a.within.frame.now in
+    let v = (r_got w32 c.energy_from-energy.type_inv c.energy_from-energy.ensures).val in
+    (omega arith, (omega arith, (v, filled_turn (running w (a.within.lags.target - a.within.lags.first) a.within.lags.len) 0 (replicate 22 (pos 0)) (filled_none _ _) v (omega arith))))
+
+pub loop-i-preserved : goal.loop-i-preserved
+loop-i-preserved c =
+    let a = c.args in
+    let w = a.within.frame.now in
+    let i = c.loop-i.i in
+    let g = (r_elem w16 _ c.slide-arg-1.given).val in
+    let k = (r_elem w16 _ c.slide-arg-in-loop-i-1.given).val in
+    let e = c.loop-i.invariant.1.1.0 in
+    let v = (r_got w32 c.slide-energy.type_inv (c.slide-energy.ensures ∙ (λ t. step (e t) (g t) (k t)) ∙ sym (running_at w (a.within.lags.target - a.within.lags.first) a.within.lags.len i c.loop-i.invariant.0))).val in
+    let b : i ≡ i + 1 - 1 = omega arith in (
+      omega arith,
+      (omega arith, (v ∙ ap (running w (a.within.lags.target - a.within.lags.first) a.within.lags.len) b, filled_turn (running w (a.within.lags.target - a.within.lags.first) a.within.lags.len) i (replicate 22 (pos 0)) c.loop-i.invariant.1.1.1 v (omega arith))),
+    )
+
+pub returns : goal.returns
+returns c =
+    let a = c.args in
+    let e : c.loop-i.i ≡ a.within.lags.count = omega arith in
+    c.loop-i.invariant.1.1.1 ∙ ap (λ (n : ℕ). filled (running a.within.frame.now (a.within.lags.target - a.within.lags.first) a.within.lags.len) n (replicate 22 (pos 0))) e
