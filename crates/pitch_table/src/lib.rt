@@ -6,6 +6,7 @@ ghost use Rattle.std.proofs.lemmas.List.Edits.{sets};
 ghost use Rattle.pitch_table.specs.Row.{row_size, numbers, row_at, unpitched_row};
 
 mod pair;
+mod row_numbers;
 
 pub use pair::Pair;
 
@@ -14,6 +15,11 @@ pub const ROW_SIZE: usize = 8;
 
 // How many frames a track, and so a sheet, has at most.
 pub const MOST_FRAMES: usize = 4096;
+
+// The verdicts of a row without pitch.
+pub const UNVOICED: i32 = 1;
+
+pub const ZERO_DIVISOR: i32 = 2;
 
 // A row of a table: what is said of one frame.
 #[derive(Clone, Copy, PartialEq, Eq)]
@@ -38,19 +44,10 @@ impl Row {
     pub fn numbers(self) -> [i32; ROW_SIZE]
         ensures { result ≡ numbers self }
     {
-        [
-            self.verdict,
-            self.index,
-            self.contour,
-            self.correlation,
-            self.lag0,
-            self.lag1,
-            self.lag2,
-            self.lag3,
-        ]
+        self.into()
     }
 
-    // The row of a frame without pitch, from its verdict: 1 unvoiced, 2 zero divisor.
+    // The row of a frame without pitch, from its verdict: UNVOICED or ZERO_DIVISOR. Any number is taken, as a row's verdict can be any.
     #[tactic(auto, unfolding(crate::specs::Row::unpitched_row))]
     pub fn unpitched(verdict: i32) -> Row
         ensures { result ≡ unpitched_row verdict }
@@ -84,14 +81,7 @@ pub fn get_row(table: &[i32], i: usize) -> Row
     ensures { result ≡ row_at table.now i }
 {
     let at = i * ROW_SIZE;
-    Row {
-        verdict: table[at],
-        index: table[at + 1],
-        contour: table[at + 2],
-        correlation: table[at + 3],
-        lag0: table[at + 4],
-        lag1: table[at + 5],
-        lag2: table[at + 6],
-        lag3: table[at + 7],
-    }
+    let mut numbers = [0; ROW_SIZE];
+    numbers.copy_from_slice(&table[at..at + ROW_SIZE]);
+    numbers.into()
 }

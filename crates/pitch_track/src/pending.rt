@@ -6,7 +6,7 @@ ghost use Rattle.pitch_track.specs.Step.{padded};
 
 use pitch_settings::{Analysed, LONGEST_FRAME};
 use pitch_table::Row;
-use silk_pitch_analysis::frame_row;
+use silk_pitch_analysis::{Previous, analysed_row};
 use track_paper::Prev;
 
 // What is not yet analysed: the samples held, and those delivered, which follow them.
@@ -42,9 +42,10 @@ impl Pending<'_> {
     {
         let length = s.frame_length();
         let frame = self.window(from, length);
-        let Ok(row) = frame_row(s.settings, &frame[..length], before.lag, before.correlation) else {
-            unreachable!();
+        let prev = Previous {
+            lag: before.lag,
+            correlation: before.correlation,
         };
-        row
+        analysed_row(s, &frame[..length], prev)
     }
 }

@@ -1,5 +1,5 @@
 -- What the private functions of the frame call hand to each other. Definitions only.
-use Rattle.std.specs.Prelude.{Result, Ok, Err, ◌≡◌, true, ℕ, ◌≤◌, ◌<◌, ℤ}
+use Rattle.std.specs.Prelude.{Result, Ok, Err, ◌≡◌, Bool, true, ℕ, ◌≤◌, ◌<◌, ℤ}
 use Rattle.answers.specs.declared.NoPitch.{NoPitch}
 use Rattle.answers.specs.declared.NoPitch.TheVariants.{Unvoiced as HasNone, ZeroDivisor as ByZero}
 use Rattle.pitch_settings.specs.declared.Settings.{Settings}
@@ -28,3 +28,9 @@ pub data VerdictCarried (s : Settings) : Verdict → Type 0 where
   voiced : {index contour corr : ℤ} → carried s.rate s.nb s.complexity index contour ≡ true → VerdictCarried s (Voiced index contour corr)
   unvoiced : VerdictCarried s Unvoiced
   zero_divisor : VerdictCarried s ZeroDivisor
+
+-- the same, as a test
+abbrev pub pair_carried_in : Settings → Verdict → Bool
+pair_carried_in s (Voiced index contour corr) = carried s.rate s.nb s.complexity index contour
+pair_carried_in s Unvoiced = true
+pair_carried_in s ZeroDivisor = true

@@ -2,24 +2,27 @@
 #![tactic(auto)]
 
 ghost use Rattle.std.specs.Prelude.{◌≡◌, ◌+◌, ◌*◌, ◌<◌, ◌≤◌, IfOk, length, take};
-ghost use Rattle.lists.specs.Fill.{filled};
 ghost use Rattle.pitch_settings.specs.Settings.{frame_length};
 ghost use Rattle.refusals.specs.Refusals.{told, number_told};
-ghost use Rattle.silk_pitch_analysis.specs.Frame.{from_pair, last_stage, from_winner, from_screen, staged, verdict_of, lag_of, row_from, row_answer, frame_no, frame_outcome, frame_call, frame_answer_numbers, row_answer_in_numbers, frame_in_numbers, row_in_numbers};
+ghost use Rattle.silk_pitch_analysis.specs.Frame.{from_pair, last_stage, from_winner, from_screen, staged, verdict_of, frame_row, row_answer, frame_no, frame_outcome, frame_call, frame_answer_numbers, row_answer_in_numbers, frame_in_numbers, row_in_numbers};
 ghost use Rattle.stage1.specs.Stage1.{stage1};
 ghost use Rattle.stage2.specs.Stage2.{stage2};
 ghost use Rattle.stage2_correlations.specs.Marks.{Kept};
 ghost use Rattle.stage3.specs.Pick.{Pair as FoundPair};
 ghost use Rattle.silk_pitch_analysis.specs.Steps.{verdict_without, verdict_from, VerdictCarried, WinnerRange};
 
+mod analysis;
+
+use analysis::Analysis;
 use answers::NoPitch;
 use frame_signals::{frame_4khz, frame_8khz, frame_shift, scale_into, working_frame};
 use pitch_settings::{Analysed, Settings};
-use pitch_table::{Pair, Row};
+use pitch_table::Row;
 use refusals::Refusal;
 use silk_resampler::source_filter;
 use stage1::search_stage1;
-use stage2::{Previous, search_stage2};
+pub use stage2::Previous;
+use stage2::search_stage2;
 use stage3::search_stage3;
 
 // A frame's verdict, and a voiced frame's pair and correlation (Q15).
@@ -99,60 +102,6 @@ fn last_stage(
     Ok(voiced(fs_khz, found.lag, found.contour, correlation))
 }
 
-// The lag of subframe k.
-fn verdict_lag(s: Analysed, v: Verdict, k: usize) -> i32
-    requires { VerdictCarried s.settings v }
-    ensures { result ≡ lag_of s.settings v k }
-{
-    match v {
-        Verdict::Voiced { index, contour, .. } => {
-            let pair = Pair {
-                settings: s.into(),
-                index,
-                contour,
-            };
-            pair.lag(k)
-        }
-        Verdict::Unvoiced => 0,
-        Verdict::ZeroDivisor => 0,
-    }
-}
-
-// The row of a verdict.
-#[tactic(auto, unfolding(crate::specs::Frame::row_from))]
-fn verdict_row(s: Analysed, v: Verdict) -> Row
-    requires { VerdictCarried s.settings v }
-    ensures { result ≡ row_from s.settings v }
-{
-    match v {
-        Verdict::Voiced {
-            index,
-            contour,
-            correlation,
-        } => {
-            let pair = Pair {
-                settings: s.into(),
-                index,
-                contour,
-            };
-            pair.row(correlation)
-        }
-        Verdict::Unvoiced => Row::unpitched(1),
-        Verdict::ZeroDivisor => Row::unpitched(2),
-    }
-}
-
-// The lags of the nb subframes.
-fn put_lags(out: &mut [i32], s: Analysed, v: Verdict)
-    requires verdict { VerdictCarried s.settings v }
-    requires places { s.settings.nb ≤ length out.old }
-    ensures { out.new ≡ filled (lag_of s.settings v) s.settings.nb out.old }
-{
-    for k in 0..s.settings.nb {
-        out[k] = verdict_lag(s, v, k);
-    }
-}
-
 // Stage 2 on the 8 kHz signal, then the last stage on the working frame.
 fn second_stage(
     w: &[i16],
@@ -211,7 +160,17 @@ fn analyse(frame: &[i16], s: Analysed, prev: Previous) -> Verdict
     analyse_working(w, s, prev)
 }
 
+// The row of the first N samples, of settings that are known to be analysed and with the samples of a frame: it is never refused.
+#[tactic(auto, unfolding(crate::specs::Frame::frame_row))]
+pub fn analysed_row(s: Analysed, x: &[i16], prev: Previous) -> Row
+    requires { frame_length s.settings ≤ length x.now }
+    ensures { result ≡ frame_row s.settings (take (frame_length s.settings) x.now) prev.lag prev.correlation }
+{
+    Analysis::of(x, s, prev).row()
+}
+
 // The row of the first N samples, or refusals 1 to 4 in order: a row has four lag places, so 5 never comes.
+// The previous lag and correlation are two numbers, as the frame call has them.
 pub fn frame_row(s: Settings, x: &[i16], prev_lag: i32, prev_corr: i32) -> Result<Row, Refusal>
     ensures answer { told result ≡ row_answer s x.now prev_lag prev_corr }
     ensures numbers { row_answer_in_numbers (told result) ≡ row_in_numbers s x.now prev_lag prev_corr }
@@ -221,11 +180,11 @@ pub fn frame_row(s: Settings, x: &[i16], prev_lag: i32, prev_corr: i32) -> Resul
         lag: prev_lag,
         correlation: prev_corr,
     };
-    let v = analyse(x, analysed, prev);
-    Ok(verdict_row(analysed, v))
+    Ok(analysed_row(analysed, x, prev))
 }
 
 // The frame call. Refusals 1 to 5 in order leave the lag places as they are; else the first N samples are analysed, and the first nb lag places are written.
+// The previous lag and correlation are two numbers, since the source's call has them so.
 pub fn silk_pitch_analysis_core(
     frame: &[i16],
     pitch_out: &mut [i32],
@@ -241,7 +200,7 @@ pub fn silk_pitch_analysis_core(
         lag: prev_lag,
         correlation: prev_corr,
     };
-    let v = analyse(frame, analysed, prev);
-    put_lags(pitch_out, analysed, v);
-    Ok(v)
+    let found = Analysis::of(frame, analysed, prev);
+    found.put_lags(pitch_out);
+    Ok(found.verdict)
 }

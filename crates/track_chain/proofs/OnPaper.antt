@@ -15,7 +15,7 @@ use Rattle.track_paper.specs.declared.Prev.{Prev}
 use Rattle.track_paper.specs.Paper.{F, previous, no_previous, paper_numbers, track_limit, paper_no, joined_by, paper_answer, joined_samples, paper_answers, frames_done, samples_held, paper_table}
 use Rattle.track_paper.specs.FramesLaws.{lt_or_le, eq_or_ne, short}
 use Rattle.track_paper.specs.RowsLaws.{type_accepted, length_rows, before_drop, rows_drop, before_stable, rows_stable, row_in}
-use Rattle.track_paper.specs.PaperLaws.{paper_over, paper_none, paper_seven, paper_room, joins, stays, says_yes, says_no, within_limit, within_rows, frames_start, length_held, held_few, added, whole_frame}
+use Rattle.track_paper.specs.PaperLaws.{limit_refuses, paper_over, paper_none, paper_seven, paper_room, joins, stays, says_yes, says_no, within_limit, within_rows, frames_start, length_held, held_few, added, whole_frame}
 use Rattle.track_refusal.specs.Refusal.{delivery_refusal}
 use Rattle.track_refusal.specs.RefusalLaws.{over, seven, room, none}
 use Rattle.pitch_track.specs.declared.Track.{Track}
@@ -186,13 +186,13 @@ module _ (ts : TrackSettings) (right : start_no ts ≡ 0) where
         ⊎_elim
         (λ (e : paper_no track_limit s whole_rows j d ≡ 0).
         let n : frames_done s (j ++ d) ≡ F s (length j + length d) = ap (F s) (length-append j d) in
-        let within : F s (length j + length d) ≤ most_frames = within_limit track_limit s whole_rows j d e in
+        let within : F s (length j + length d) ≤ most_frames = within_limit track_limit s whole_rows j d limit_refuses e in
         rw (joins track_limit s whole_rows j d e)
         (record {
           few = omega arith;
           fit =
               ⊎_elim
-              (λ (p : F s (length j) < F s (length j + length d)). let q = within_rows track_limit s whole_rows j d e p in omega arith)
+              (λ (p : F s (length j) < F s (length j + length d)). let q = within_rows track_limit s whole_rows j d limit_refuses e p in omega arith)
               (λ (p : F s (length j + length d) ≤ F s (length j)). omega (arith, r.fit))
               (lt_or_le (F s (length j)) (F s (length j + length d)));
         }))

@@ -1,6 +1,6 @@
 -- The track on paper (docs/SCOPE.md, Track): what the settings, the table as first lent and the deliveries decide, and nothing of a program's state. Definitions only.
 use Rattle.std.specs.Prelude.{Result, Ok, Err, ℕ, zero, suc, ◌+◌, ◌-◌, ◌*◌, ◌/◌, List, [], ◌∷◌, ◌++◌, cond, ℤ, pos, length, take, drop, ltb, eqb}
-use Rattle.refusals.specs.declared.Refusal.TheVariants.{LongTrack}
+use Rattle.refusals.specs.declared.Refusal.{Refusal}
 use Rattle.refusals.specs.Refusals.{refusal_number}
 use Rattle.pitch_settings.specs.declared.Settings.{Settings}
 use Rattle.pitch_settings.specs.Settings.{frame_length, hop_length}
@@ -75,30 +75,34 @@ paper_numbers k x p (suc n) = paper_numbers k x p n ++ numbers (paper_row k x p 
 
 -- ---- deliveries
 
+-- a limit with the number of its refusal in the refusal's place
+abbrev pub numbered : Limit Refusal → Limit ℕ
+numbered l = record { frames = l.frames; refusal = refusal_number l.refusal }
+
 -- the limit of a track by itself: frames over `most_frames` are refused, with 6
-abbrev pub track_limit : Limit
-track_limit = record { frames = most_frames; refusal = LongTrack }
+abbrev pub track_limit : Limit ℕ
+track_limit = record { frames = most_frames; refusal = 6 }
 
 -- the number of a refusal of delivery d after the samples j, or 0, by a limit on the frames; rows is how many whole rows the table has
-unfoldable pub paper_no : Limit → Settings → ℕ → List ℤ → List ℤ → ℕ
+unfoldable pub paper_no : Limit ℕ → Settings → ℕ → List ℤ → List ℤ → ℕ
 paper_no l s rows j d =
-    cond (ltb l.frames (F s (length j + length d))) (refusal_number l.refusal)
+    cond (ltb l.frames (F s (length j + length d))) l.refusal
     (cond (ltb (F s (length j)) (F s (length j + length d))) (cond (ltb rows (F s (length j + length d))) 7 0) 0)
 
 -- J after the delivery
-unfoldable pub joined_by : Limit → Settings → ℕ → List ℤ → List ℤ → List ℤ
+unfoldable pub joined_by : Limit ℕ → Settings → ℕ → List ℤ → List ℤ → List ℤ
 joined_by l s rows j d = cond (eqb (paper_no l s rows j d) 0) (j ++ d) j
 
 -- what is said of it: accepted, with the frames then done, or refused with its number
-unfoldable pub paper_answer : Limit → Settings → ℕ → List ℤ → List ℤ → Result ℕ ℕ
+unfoldable pub paper_answer : Limit ℕ → Settings → ℕ → List ℤ → List ℤ → Result ℕ ℕ
 paper_answer l s rows j d = answer_of (paper_no l s rows j d) (F s (length j + length d))
 
 -- J after a list of deliveries, and what is said of each
-unfoldable pub joined_samples : Limit → Settings → ℕ → List ℤ → List (List ℤ) → List ℤ
+unfoldable pub joined_samples : Limit ℕ → Settings → ℕ → List ℤ → List (List ℤ) → List ℤ
 joined_samples l s rows j [] = j
 joined_samples l s rows j (d ∷ ds) = joined_samples l s rows (joined_by l s rows j d) ds
 
-unfoldable pub paper_answers : Limit → Settings → ℕ → List ℤ → List (List ℤ) → List (Result ℕ ℕ)
+unfoldable pub paper_answers : Limit ℕ → Settings → ℕ → List ℤ → List (List ℤ) → List (Result ℕ ℕ)
 paper_answers l s rows j [] = []
 paper_answers l s rows j (d ∷ ds) = paper_answer l s rows j d ∷ paper_answers l s rows (joined_by l s rows j d) ds
 

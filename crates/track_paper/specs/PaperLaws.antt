@@ -8,12 +8,16 @@ use Rattle.pitch_settings.specs.declared.Settings.{Settings}
 use Rattle.pitch_settings.specs.Settings.{settings_no, frame_length, hop_length}
 use Rattle.pitch_settings.specs.SettingsLaws.{Accepted as Sized, accepted_settings}
 use Rattle.track_paper.specs.declared.Limit.{Limit}
-use Rattle.track_paper.specs.Paper.{F, answer_of, paper_no, joined_by, paper_answer, frames_done, samples_held}
+use Rattle.track_paper.specs.Paper.{F, answer_of, track_limit, paper_no, joined_by, paper_answer, frames_done, samples_held}
 use Rattle.track_paper.specs.FramesLaws.{lt_or_le, fits, rest, starts, parts}
 
-module _ (l : Limit) (s : Settings) (rows : ℕ) (j d : List ℤ) where
+-- a track's own limit has the number of a refusal
+pub limit_refuses : track_limit.refusal ≡ 0 → ⊥
+limit_refuses e = omega arith
+
+module _ (l : Limit ℕ) (s : Settings) (rows : ℕ) (j d : List ℤ) where
   -- what each test says of the number
-  pub paper_over : l.frames < F s (length j + length d) → paper_no l s rows j d ≡ refusal_number l.refusal
+  pub paper_over : l.frames < F s (length j + length d) → paper_no l s rows j d ≡ l.refusal
   unfolding paper_no
   paper_over p = rw (lt-ltb _ _ p)
 
@@ -47,10 +51,10 @@ module _ (l : Limit) (s : Settings) (rows : ℕ) (j d : List ℤ) where
   unfolding paper_answer answer_of
   says_no e = rw (ne_eqb _ _ e)
 
-  -- what an accepted delivery says
-  module _ (accepted : paper_no l s rows j d ≡ 0) where
+  -- what an accepted delivery says, by a limit whose number is one of a refusal
+  module _ (refuses : l.refusal ≡ 0 → ⊥) (accepted : paper_no l s rows j d ≡ 0) where
     pub within_limit : F s (length j + length d) ≤ l.frames
-    within_limit = ⊎_elim (λ q. absurd (refused_positive l.refusal (sym (paper_over q)) accepted)) (λ q. q) (lt_or_le l.frames (F s (length j + length d)))
+    within_limit = ⊎_elim (λ q. absurd (refuses (sym (paper_over q) ∙ accepted))) (λ q. q) (lt_or_le l.frames (F s (length j + length d)))
 
     pub within_rows : F s (length j) < F s (length j + length d) → F s (length j + length d) ≤ rows
     within_rows p = ⊎_elim (λ q. absurd (omega (arith, paper_seven within_limit p q))) (λ q. q) (lt_or_le rows (F s (length j + length d)))

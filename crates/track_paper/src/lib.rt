@@ -3,7 +3,7 @@
 
 ghost use Rattle.std.specs.Prelude.{◌≡◌};
 ghost use Rattle.refusals.specs.Refusals.{told};
-ghost use Rattle.track_paper.specs.Paper.{track_limit, answer_no};
+ghost use Rattle.track_paper.specs.Paper.{numbered, track_limit, answer_no};
 
 use pitch_table::MOST_FRAMES;
 use refusals::Refusal;
@@ -17,16 +17,16 @@ pub struct Prev {
     pub signal: i32,
 }
 
-// How many frames a track may have, and the refusal of a delivery that would make more.
+// How many frames a track may have, and how a delivery that would make more is refused: with a refusal, or with any number of the caller's own.
 #[derive(Clone, Copy, PartialEq, Eq)]
-pub struct Limit {
+pub struct Limit<R> {
     pub frames: usize,
-    pub refusal: Refusal,
+    pub refusal: R,
 }
 
 // The limit of a track by itself: 4,096 frames.
-pub fn track_limit() -> Limit
-    ensures { result ≡ track_limit }
+pub fn track_limit() -> Limit<Refusal>
+    ensures { numbered result ≡ track_limit }
 {
     Limit {
         frames: MOST_FRAMES,

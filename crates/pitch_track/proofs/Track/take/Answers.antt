@@ -13,6 +13,7 @@ use Rattle.track_settings.specs.declared.TrackSettings.{TrackSettings}
 use Rattle.track_settings.specs.TrackSettings.{stored_settings}
 use Rattle.track_paper.specs.Paper.{frame_count, F, previous, paper_numbers, track_limit}
 use Rattle.track_paper.specs.FramesLaws.{rest, starts}
+use Rattle.track_paper.specs.PaperLaws.{limit_refuses}
 use Rattle.track_refusal.specs.RefusalLaws.{Passed, passed}
 use Rattle.pitch_track.specs.declared.Track.{Track}
 use Rattle.pitch_track.specs.Step.{padded, pending, delivery_no, DeliveryOutcome, accepted_delivery}
@@ -28,7 +29,7 @@ module _ (tr : Track) (table given : List ℤ) (number : 0 ≡ delivery_no tr ta
   all = tr.count + length given
 
   pass : Passed track_limit (stored_settings tr.settings) tr.frames tr.count (length given) (length table)
-  pass = passed _ tr.settings tr.prev.signal _ _ _ _ (sym number)
+  pass = passed track_limit tr.settings tr.prev.signal _ _ _ _ limit_refuses (sym number)
 
   sized : Sized (stored_settings tr.settings)
   sized = accepted_settings _ pass.ok

@@ -1,68 +1,63 @@
--- `Pending::row` meets its contract: the front of the window is the frame, and a whole frame of analysed settings is never refused.
-use Rattle.std.proofs.Common.{◌≡◌, ℕ, ◌+◌, ◌≤◌, Ok, List, ◌++◌, ℤ, length, take, drop, w32, SFits, to_z, of_z, ap, sym, ◌∙◌, rules, arith, length-append}
+-- `Pending::row` meets its contract: the front of the window is the frame.
+use Rattle.std.proofs.Common.{◌≡◌, ℕ, ◌+◌, ◌≤◌, List, ◌++◌, ℤ, length, take, drop, w32, SFits, to_z, of_z, ap, sym, ◌∙◌, rules, arith, length-append, take_all}
 use Rattle.zint.specs.ReadLaws.{r_var}
 use Rattle.pitch_settings.specs.declared.Settings.{Settings}
-use Rattle.pitch_settings.specs.Settings.{settings_no, frame_length}
+use Rattle.pitch_settings.specs.Settings.{frame_length}
 use Rattle.pitch_settings.specs.SettingsLaws.{accepted_settings}
-use Rattle.silk_pitch_analysis.specs.Frame.{frame_row, row_answer}
-use Rattle.silk_pitch_analysis.specs.FrameLaws.{row_whole, one_row, no_refusal}
+use Rattle.silk_pitch_analysis.specs.Frame.{frame_row}
 use Rattle.track_paper.specs.declared.Prev.{Prev}
 use Rattle.pitch_track.specs.Step.{padded}
 use Rattle.pitch_track.proofs.Lists.{length_part, padded_front, length_padded}
 use Rattle.pitch_track.proofs.pending.Pending.row.Goals as goal
 
--- the frame that starts at `from`, in the window
-module _ (x : List ℤ) (from len : ℕ) (inside : from + len ≤ length x) {window : List ℤ} (is : window ≡ padded (take len (drop from x))) where
-  front : take len window ≡ take len (drop from x)
-  front = ap (take len) is ∙ padded_front (take len (drop from x)) len (length_part x from len inside)
+-- the frame of n samples that starts at `from`, in the window: the samples are those held and those delivered
+module _ (s : Settings) (held samples : List ℤ) (from n : ℕ) (is_length : n ≡ frame_length s) (fits : from + frame_length s ≤ length held + length samples) {window : List ℤ}
+    (is : window ≡ padded (take n (drop from (held ++ samples)))) where
+  within : from + n ≤ length (held ++ samples)
+  within = omega (arith, length-append held samples)
 
-  long : len ≤ 640 → length window ≡ 640
-  long h = ap length is ∙ length_padded (take len (drop from x)) (omega (arith, length_part x from len inside))
+  long : n ≤ 640 → length window ≡ 640
+  long h = ap length is ∙ length_padded (take n (drop from (held ++ samples))) (omega (arith, length_part (held ++ samples) from n within))
 
-  size : length (take len window) ≡ len
-  size = ap length front ∙ length_part x from len inside
+  front : take n window ≡ take n (drop from (held ++ samples))
+  front = ap (take n) is ∙ padded_front (take n (drop from (held ++ samples))) n (length_part (held ++ samples) from n within)
 
-  said : (s : Settings) → settings_no s ≡ 0 → len ≡ frame_length s → (p : Prev) → SFits w32 p.lag → SFits w32 p.correlation
-      → row_answer s (take len window) (to_z w32 (of_z w32 p.lag)) (to_z w32 (of_z w32 p.correlation)) ≡ Ok (frame_row s (take (frame_length s) (drop from x)) p.lag p.correlation)
-  said s h e p f g =
-      let w = front ∙ ap (λ (n : ℕ). take n (drop from x)) e in
-      (λ i. row_answer s (w i) ((r_var f).val i) ((r_var g).val i))
-      ∙ row_whole s (take (frame_length s) (drop from x)) p.lag p.correlation h (ap length (sym w) ∙ size ∙ e)
+  size : length (take n window) ≡ n
+  size = ap length front ∙ length_part (held ++ samples) from n within
+
+  row_is : (p : Prev) → SFits w32 p.lag → SFits w32 p.correlation
+      → frame_row s (take (frame_length s) (take n window)) (to_z w32 (of_z w32 p.lag)) (to_z w32 (of_z w32 p.correlation))
+      ≡ frame_row s (take (frame_length s) (drop from (held ++ samples))) p.lag p.correlation
+  row_is p f g =
+      let t = take_all (frame_length s) (take n window) (omega (arith, size)) in
+      let w = t ∙ front ∙ ap (λ (m : ℕ). take m (drop from (held ++ samples))) is_length in
+      λ i. frame_row s (w i) ((r_var f).val i) ((r_var g).val i)
 
 pub window-frame-requires : goal.window-frame-requires
 window-frame-requires c =
     let z = accepted_settings _ c.args.s.analysed in
     (omega (arith, c.frame_length-length.ensures, c.requires), omega (arith, c.frame_length-length.ensures, z.small))
 
--- the frame lies within the samples
-inside : (h s : List ℤ) (from len : ℕ) → from + len ≤ length h + length s → from + len ≤ length (h ++ s)
-inside h s from len p = omega (arith, length-append h s, p)
-
 pub slice_bounds-frame-end : goal.slice_bounds-frame-end
 slice_bounds-frame-end c =
     let a = c.args in
     let z = accepted_settings _ a.s.analysed in
-    let i : a.from + c.frame_length-length.result ≤ length (a.self.held.now ++ a.self.samples.now) = inside a.self.held.now a.self.samples.now a.from c.frame_length-length.result (omega (arith, c.frame_length-length.ensures, c.requires)) in
-    omega (arith, c.frame_length-length.ensures, z.small, long (a.self.held.now ++ a.self.samples.now) a.from c.frame_length-length.result i c.window-frame.ensures (omega (arith, c.frame_length-length.ensures, z.small)))
+    let small : c.frame_length-length.result ≤ 640 = omega (arith, c.frame_length-length.ensures, z.small) in
+    omega (arith, small, long a.s.settings a.self.held.now a.self.samples.now a.from c.frame_length-length.result c.frame_length-length.ensures c.requires c.window-frame.ensures small)
 
-pub slice_bounds-frame_row-end : goal.slice_bounds-frame_row-end
-slice_bounds-frame_row-end c =
+pub slice_bounds-analysed_row-end : goal.slice_bounds-analysed_row-end
+slice_bounds-analysed_row-end c =
     let a = c.args in
-    let i : a.from + c.frame_length-length.result ≤ length (a.self.held.now ++ a.self.samples.now) = inside a.self.held.now a.self.samples.now a.from c.frame_length-length.result (omega (arith, c.frame_length-length.ensures, c.requires)) in
-    sym (size (a.self.held.now ++ a.self.samples.now) a.from c.frame_length-length.result i c.window-frame.ensures)
+    sym (size a.s.settings a.self.held.now a.self.samples.now a.from c.frame_length-length.result c.frame_length-length.ensures c.requires c.window-frame.ensures)
 
-pub unreachable-requires : goal.unreachable-requires
-unreachable-requires c =
+pub analysed_row-requires : goal.analysed_row-requires
+analysed_row-requires c =
     let a = c.args in
-    let f : SFits w32 a.before.lag = search rules in
-    let g : SFits w32 a.before.correlation = search rules in
-    let i : a.from + c.frame_length-length.result ≤ length (a.self.held.now ++ a.self.samples.now) = inside a.self.held.now a.self.samples.now a.from c.frame_length-length.result (omega (arith, c.frame_length-length.ensures, c.requires)) in
-    no_refusal _ _ _ (said (a.self.held.now ++ a.self.samples.now) a.from c.frame_length-length.result i c.window-frame.ensures a.s.settings a.s.analysed c.frame_length-length.ensures a.before f g) (sym c.in_default.ensures.answer)
+    omega (arith, c.frame_length-length.ensures, size a.s.settings a.self.held.now a.self.samples.now a.from c.frame_length-length.result c.frame_length-length.ensures c.requires c.window-frame.ensures)
 
 pub returns : goal.returns
 returns c =
     let a = c.args in
     let f : SFits w32 a.before.lag = search rules in
     let g : SFits w32 a.before.correlation = search rules in
-    let i : a.from + c.frame_length-length.result ≤ length (a.self.held.now ++ a.self.samples.now) = inside a.self.held.now a.self.samples.now a.from c.frame_length-length.result (omega (arith, c.frame_length-length.ensures, c.requires)) in
-    one_row _ _ _ (sym c.in-Ok.ensures.answer) (said (a.self.held.now ++ a.self.samples.now) a.from c.frame_length-length.result i c.window-frame.ensures a.s.settings a.s.analysed c.frame_length-length.ensures a.before f g)
+    c.analysed_row.ensures ∙ row_is a.s.settings a.self.held.now a.self.samples.now a.from c.frame_length-length.result c.frame_length-length.ensures c.requires c.window-frame.ensures a.before f g
