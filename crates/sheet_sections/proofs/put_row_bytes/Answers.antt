@@ -4,7 +4,7 @@ use Rattle.std.specs.Prelude.{nat_abs}
 use Rattle.std.specs.Int.{w32}
 use Rattle.sheet_sections.specs.declared.Section.{Section}
 use Rattle.sheet_sections.specs.Sheet.{entry_bytes, has_entry}
-use Rattle.sheet_sections.specs.RowBytesLaws.{row_bytes-length, put_no_entry, put_verdict, put_pair, put_correlation}
+use Rattle.sheet_sections.specs.RowBytesLaws.{row_bytes-length, pair_voiced, correlation_voiced, put_no_entry, put_verdict, put_pair, put_correlation}
 use Rattle.sheet_sections.proofs.put_row_bytes.Goals as goal
 use Rattle.sheet_sections.proofs.put_row_bytes.Goals.{Else-not-has_entry}
 
@@ -32,7 +32,7 @@ pub returns-in-Verdicts : goal.returns-in-Verdicts
 returns-in-Verdicts c =
     let a = c.args in
     let v : to_z w32 (of_z w32 a.r.verdict) ≡ a.r.verdict = search rules in
-    rw c.in-Verdicts.is (put_verdict a.r a.page.now a.at (entered_in (goal.at.returns-in-Verdicts c).Else-not-has_entry c.in-Verdicts.is) (ap nat_abs v))
+    rw c.in-Verdicts.is (put_verdict a.r a.page.now a.at (ap nat_abs v))
 
 pub put_u16-requires : goal.put_u16-requires
 put_u16-requires c = omega (arith, room_in (goal.at.put_u16-requires c).Else-not-has_entry c.in-Pairs.is)
@@ -45,7 +45,7 @@ returns-in-Pairs c =
     let a = c.args in
     let i : to_z w32 (of_z w32 a.r.index) ≡ a.r.index = search rules in
     let n : to_z w32 (of_z w32 a.r.contour) ≡ a.r.contour = search rules in
-    rw c.in-Pairs.is (put_pair a.r a.page.now a.at (entered_in (goal.at.returns-in-Pairs c).Else-not-has_entry c.in-Pairs.is) c.put_u16.ensures (ap nat_abs i) (ap nat_abs n))
+    rw c.in-Pairs.is (put_pair a.r a.page.now a.at (pair_voiced a.r (entered_in (goal.at.returns-in-Pairs c).Else-not-has_entry c.in-Pairs.is)) c.put_u16.ensures (ap nat_abs i) (ap nat_abs n))
 
 pub put_i32-requires : goal.put_i32-requires
 put_i32-requires c = omega (arith, room_in (goal.at.put_i32-requires c).Else-not-has_entry c.in-Correlations.is)
@@ -54,4 +54,4 @@ pub returns-in-Correlations : goal.returns-in-Correlations
 returns-in-Correlations c =
     let a = c.args in
     let v : to_z w32 (of_z w32 a.r.correlation) ≡ a.r.correlation = search rules in
-    rw c.in-Correlations.is (put_correlation a.r a.page.now a.at (entered_in (goal.at.returns-in-Correlations c).Else-not-has_entry c.in-Correlations.is) c.put_i32.ensures v)
+    rw c.in-Correlations.is (put_correlation a.r a.page.now a.at (correlation_voiced a.r (entered_in (goal.at.returns-in-Correlations c).Else-not-has_entry c.in-Correlations.is)) c.put_i32.ensures v)
