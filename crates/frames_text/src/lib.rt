@@ -11,7 +11,7 @@ ghost use Rattle.frames_text.specs.Frames.{record_head, longest_record, record_s
 use pitch_input::{HEAD_SIZE, load_samples, settings_in};
 use pitch_settings::{Analysed, LONGEST_FRAME};
 use pitch_table::Row;
-use pitch_text::{put_refused, put_row_text};
+use pitch_text::{put_refusal, put_row_text};
 use refusals::Refusal;
 use sheet_bytes::i32_at;
 use silk_pitch_analysis::frame_row;
@@ -103,7 +103,7 @@ pub fn frame_text(bytes: &[u8], samples: &mut [i16], out: &mut [u8]) -> Line
             }
         }
         Err(refusal) => {
-            let len = put_refused(out, 0, refusal);
+            let len = put_refusal(out, 0, refusal);
             Line {
                 len,
                 answer: Err(refusal),

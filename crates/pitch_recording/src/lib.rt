@@ -1,8 +1,9 @@
 // A recording as a program's input: a head that says the settings, and then samples. The input is judged, and its samples are loaded.
 #![tactic(auto)]
 
-ghost use Rattle.std.specs.Prelude.{◌≡◌, List, ◌++◌, ℕ, ◌<◌, ◌≤◌, ltb, length};
+ghost use Rattle.std.specs.Prelude.{◌≡◌, List, ◌++◌, ℕ, ◌<◌, ◌≤◌, ltb, pos, length};
 ghost use Rattle.refusals.specs.Refusals.{told, number_told};
+ghost use Rattle.track_settings.specs.TrackSettings.{stored_settings, track_settings_no};
 ghost use Rattle.track_paper.specs.Paper.{F};
 ghost use Rattle.pitch_recording.specs.Recording.{program_frames, recording_samples, recording_bytes, recording_no, take_outcome, take_call};
 
@@ -33,6 +34,15 @@ pub const RECORDING_NUMBERS: usize = PROGRAM_FRAMES * ROW_SIZE;
 pub struct Recording {
     pub settings: TrackSettings,
     pub samples: usize,
+}
+
+// A recording that was taken, as it is tracked: settings that start a track, and its samples, which have no more frames than a program takes.
+#[derive(Clone, Copy)]
+pub struct RecordedTrack<'a> {
+    pub settings: TrackSettings,
+    pub samples: &'a [i16],
+    pub ghost accepted: { track_settings_no settings (pos 0) ≡ 0 },
+    pub ghost few: { F (stored_settings settings) (length samples.now) ≤ program_frames },
 }
 
 // Whether n samples have more frames than a program takes.

@@ -23,7 +23,7 @@ pub fn longest_sheet() -> usize
     LONGEST_SHEET
 }
 
-// Whether a sheet can hold each of the first rows.
+// Whether a sheet can hold each of the first rows. A table and a count, as the definition has them: the slice of the rows would be no plainer.
 fn rows_hold(settings: Held, table: &[i32], rows: usize) -> bool
     requires { rows * row_size ≤ length table.now }
     ensures { result ≡ rows_hold settings.settings table.now rows }
@@ -31,7 +31,8 @@ fn rows_hold(settings: Held, table: &[i32], rows: usize) -> bool
     (0..rows).all(|i| row_holds(settings, get_row(table, i)))
 }
 
-// The sheet of the first rows, which a page of `room` bytes can take, or why there is none.
+// The sheet of the first rows, which a page of `room` bytes can take, or why there is none. The frame count and the room stand beside the slices because they are judged here, as `write_sheet` must:
+// more frames than the table has rows are refused.
 #[tactic(auto, using(crate::specs::CallsLaws::no_settings, crate::specs::CallsLaws::no_frames, crate::specs::CallsLaws::no_rows, crate::specs::CallsLaws::no_table, crate::specs::CallsLaws::no_room, crate::specs::CallsLaws::no_refusal, crate::specs::CallsLaws::hold_each))]
 fn sheet_of(s: Settings, frames: usize, table: &[i32], room: usize) -> Result<Sheet, Refusal>
     ensures number { number_told result ≡ write_no s frames table.now room }
@@ -62,7 +63,8 @@ fn sheet_of(s: Settings, frames: usize, table: &[i32], room: usize) -> Result<Sh
     Ok(sheet)
 }
 
-// Writes the sheet of the first rows at the front of the page, and answers how many bytes it has.
+// Writes the sheet of the first rows at the front of the page, and answers how many bytes it has. The frame count stands beside the table: this is a promise to customers, and a table with fewer
+// rows is refused with 7, where a slice of the first rows could not be taken.
 pub fn write_sheet(
     s: Settings,
     frames: usize,

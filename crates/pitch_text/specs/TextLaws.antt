@@ -1,9 +1,11 @@
--- Laws of text: one part after another (the laws of `Put`, passed on), one field more, how long a number is, and how large a refusal's.
-use Rattle.std.specs.Prelude.{◌≡◌, refl, List, [], ◌∷◌, ◌++◌, ℕ, zero, suc, ◌+◌, ◌≤◌, ◌<◌, true, false, ℤ, pos, negsuc, nat_abs, length, get_or, take, drop}
+-- Laws of text: one part after another (the laws of `Put`, passed on), one field more, the rows of a part of a table, how long a number is, and how large a refusal's.
+use Rattle.std.specs.Prelude.{◌≡◌, refl, List, [], ◌∷◌, ◌++◌, ℕ, zero, suc, ◌+◌, ◌*◌, ◌/◌, ◌≤◌, ◌<◌, true, false, ℤ, pos, negsuc, nat_abs, length, get_or, take, drop}
 use Rattle.std.proofs.Common.{sym, ap, ap₂, ◌∙◌, append_assoc, append-nil, add-one, arith, ltb-true, take-suc, SFits}
 use Rattle.std.proofs.lemmas.Bool.{false≢true}
 use Rattle.std.specs.Int.Signed.{lt_z}
+use Rattle.std.proofs.lemmas.List.{get_or-take}
 use Rattle.std.proofs.lemmas.List.Edits.{sets-eq}
+use Rattle.std.proofs.Math.Seq.{length-take-le}
 use Rattle.std.specs.Int.{w32}
 use Rattle.lists.specs.Fill.{overwritten}
 pub use Rattle.lists.specs.PutLaws.{put_then, put_as, put_end, put_one as put_byte, put_next, put_none, put_front}
@@ -13,6 +15,7 @@ use Rattle.refusals.specs.declared.Refusal.{Refusal}
 use Rattle.refusals.specs.declared.Refusal.TheVariants.{Rate, Subframes, Complexity, ShortFrame, ShortSlots, LongTrack, ShortTable, ShortPage, Malformed, HalfInput, ThresholdRange}
 use Rattle.refusals.specs.Refusals.{refusal_number}
 use Rattle.pitch_table.specs.declared.Row.{Row}
+use Rattle.pitch_table.specs.Row.{row_size, row_at}
 use Rattle.pitch_text.specs.Text.{Put, fields, values_of, line_text, lines_text}
 
 -- a text that is written from the start on: how many bytes it has, and the whole list, the text laid over its front
@@ -57,6 +60,19 @@ pub lines_same : (nb : ℕ) (f g : ℕ → Row) (k : ℕ) → ((i : ℕ) → i <
 unfolding lines_text
 lines_same nb f g zero h = refl
 lines_same nb f g (suc k) h = ap₂ (λ (l : List ℕ) (r : Row). l ++ line_text k nb r) (lines_same nb f g k (λ i q. h i (omega arith))) (h k (omega arith))
+
+-- the first n rows of a table, taken out of it: its rows, and their lines
+pub row_taken : (t : List ℤ) (n i : ℕ) → i < n → row_at (take (n * row_size) t) i ≡ row_at t i
+unfolding row_at
+row_taken t n i h =
+    let part : (j : ℕ) → j < row_size → get_or (take (n * row_size) t) (i * row_size + j) (pos 0) ≡ get_or t (i * row_size + j) (pos 0) = λ j l. get_or-take (n * row_size) t (i * row_size + j) (pos 0) (omega arith) in
+    rw (get_or-take (n * row_size) t (i * row_size) (pos 0) (omega arith), part 1 (omega arith), part 2 (omega arith), part 3 (omega arith), part 4 (omega arith), part 5 (omega arith), part 6 (omega arith), part 7 (omega arith))
+
+pub rows_taken : (t : List ℤ) (n : ℕ) → n * row_size ≤ length t → length (take (n * row_size) t) / row_size ≡ n
+rows_taken t n h = omega (arith, length-take-le (n * row_size) t h)
+
+pub lines_taken : (nb : ℕ) (t : List ℤ) (n : ℕ) → n * row_size ≤ length t → lines_text nb (row_at (take (n * row_size) t)) (length (take (n * row_size) t) / row_size) ≡ lines_text nb (row_at t) n
+lines_taken nb t n h = ap (lines_text nb (row_at (take (n * row_size) t))) (rows_taken t n h) ∙ lines_same nb _ _ n (λ i l. row_taken t n i l)
 
 -- a number of 32 bits has at most 11 bytes
 pub decimal_few : (z : ℤ) → SFits w32 z → length (decimal z) ≤ 11

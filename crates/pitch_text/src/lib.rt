@@ -2,13 +2,13 @@
 // Each function takes the place at which it writes and answers the place after its text: nothing here allocates, and `write!` answers a Result of which no clause promises that it is Ok.
 #![tactic(auto)]
 
-ghost use Rattle.std.specs.Prelude.{◌≡◌, ◌+◌, ◌*◌, ◌≤◌, length, take};
+ghost use Rattle.std.specs.Prelude.{◌≡◌, ◌+◌, ◌*◌, ◌/◌, ◌≤◌, length};
 ghost use Rattle.refusals.specs.Refusals.{refusal_number};
 ghost use Rattle.pitch_table.specs.Row.{row_size, most_frames, row_at};
 ghost use Rattle.pitch_text.specs.Decimal.{digits, decimal};
-ghost use Rattle.pitch_text.specs.Text.{field_bytes, row_text_bytes, line_bytes, refused_bytes, fields, letter_of, values_of, row_text, line_text, lines_text, refused_text, Put};
+ghost use Rattle.pitch_text.specs.Text.{field_bytes, row_text_bytes, line_bytes, refused_bytes, fields, letter_of, row_text, line_text, lines_text, refused_text, Put};
 
-use pitch_table::{Row, get_row};
+use pitch_table::{ROW_SIZE, Row, get_row};
 use refusals::Refusal;
 use silk_macros::abs_u32;
 
@@ -52,20 +52,20 @@ pub fn put_number(out: &mut [u8], at: usize, z: i32) -> usize
     }
 }
 
-// The first n of the values, each after a space.
-pub fn put_fields(out: &mut [u8], at: usize, values: &[i32], n: usize) -> usize
-    requires { (n ≤ length values.now) × (at + field_bytes * n ≤ length out.old) }
-    ensures { Put out.old at (fields (take n values.now)) result out.new × (result ≤ at + field_bytes * n) }
+// The values, each after a space.
+pub fn put_fields(out: &mut [u8], at: usize, values: &[i32]) -> usize
+    requires { at + field_bytes * length values.now ≤ length out.old }
+    ensures { Put out.old at (fields values.now) result out.new × (result ≤ at + field_bytes * length values.now) }
 {
-    let mut p = at;
-    for k in 0..n {
-        out[p] = b' ';
-        p = put_number(out, p + 1, values[k]);
+    let mut end = at;
+    for value in values {
+        out[end] = b' ';
+        end = put_number(out, end + 1, *value);
     }
-    p
+    end
 }
 
-// V, U or Z.
+// V, U or Z. By the number, since a row that was read from a table can have any: 0 is V, 1 is U, and all others are Z.
 fn letter(verdict: i32) -> u8
     ensures { result ≡ letter_of verdict }
 {
@@ -76,29 +76,13 @@ fn letter(verdict: i32) -> u8
     }
 }
 
-// A row's numbers after its verdict.
-fn row_values(r: Row) -> [i32; 7]
-    ensures { result ≡ values_of r }
-{
-    [
-        r.index,
-        r.contour,
-        r.correlation,
-        r.lag0,
-        r.lag1,
-        r.lag2,
-        r.lag3,
-    ]
-}
-
 // A row as a line, with the lags of nb subframes.
 pub fn put_row_text(out: &mut [u8], at: usize, nb: usize, r: Row) -> usize
     requires { (nb ≤ 4) × (at + row_text_bytes ≤ length out.old) }
     ensures { Put out.old at (row_text nb r) result out.new × (result ≤ at + row_text_bytes) }
 {
-    let values = row_values(r);
     out[at] = letter(r.verdict);
-    let p = put_fields(out, at + 1, &values, 3 + nb);
+    let p = put_fields(out, at + 1, &r.numbers()[1..4 + nb]);
     out[p] = b'\n';
     p + 1
 }
@@ -113,26 +97,34 @@ pub fn put_line(out: &mut [u8], at: usize, i: u32, nb: usize, r: Row) -> usize
     put_row_text(out, p + 1, nb, r)
 }
 
-// The lines of the first n rows of the table.
-pub fn put_lines(out: &mut [u8], at: usize, nb: usize, table: &[i32], n: usize) -> usize
-    requires { (nb ≤ 4) × (n ≤ most_frames) × (n * row_size ≤ length table.now) × (at + line_bytes * n ≤ length out.old) }
-    ensures { Put out.old at (lines_text nb (row_at table.now) n) result out.new × (result ≤ at + line_bytes * n) }
+// The lines of a table's rows.
+pub fn put_lines(out: &mut [u8], at: usize, nb: usize, rows: &[i32]) -> usize
+    requires { (nb ≤ 4) × (length rows.now / row_size ≤ most_frames) × (at + line_bytes * (length rows.now / row_size) ≤ length out.old) }
+    ensures { Put out.old at (lines_text nb (row_at rows.now) (length rows.now / row_size)) result out.new × (result ≤ at + line_bytes * (length rows.now / row_size)) }
 {
     let mut p = at;
-    for i in 0..n {
-        let r = get_row(table, i);
-        p = put_line(out, p, i as u32, nb, r);
+    // by number: each line begins with its frame's
+    for i in 0..rows.len() / ROW_SIZE {
+        p = put_line(out, p, i as u32, nb, get_row(rows, i));
     }
     p
 }
 
+// `refused` and a number.
+pub fn put_refused(out: &mut [u8], at: usize, n: u32) -> usize
+    requires { at + refused_bytes ≤ length out.old }
+    ensures { Put out.old at (refused_text n) result out.new × (result ≤ at + refused_bytes) }
+{
+    out[at..at + 8].copy_from_slice(b"refused ");
+    let last = put_digits(out, at + 8, n);
+    out[last] = b'\n';
+    last + 1
+}
+
 // `refused` and the refusal's number.
-pub fn put_refused(out: &mut [u8], at: usize, refusal: Refusal) -> usize
+pub fn put_refusal(out: &mut [u8], at: usize, refusal: Refusal) -> usize
     requires { at + refused_bytes ≤ length out.old }
     ensures { Put out.old at (refused_text (refusal_number refusal)) result out.new × (result ≤ at + refused_bytes) }
 {
-    out[at..at + 8].copy_from_slice(b"refused ");
-    let last = put_digits(out, at + 8, refusal.number() as u32);
-    out[last] = b'\n';
-    last + 1
+    put_refused(out, at, refusal.number() as u32)
 }

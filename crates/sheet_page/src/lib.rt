@@ -1,7 +1,7 @@
 // What a page holds, read by place: whether it is a sheet, its settings, its frames and their rows.
 #![tactic(auto)]
 
-ghost use Rattle.std.specs.Prelude.{true, ◌&&◌, ◌≡◌, ◌+◌, ◌*◌, ◌<◌, ◌≤◌, length, ◌↔◌, IsSome, IfSome, IfOk};
+ghost use Rattle.std.specs.Prelude.{true, ◌&&◌, ◌≡◌, ◌+◌, ◌*◌, ◌<◌, ◌≤◌, length, ◌↔◌, IsSome, IfSome, IfNone, Some, None, IfOk};
 ghost use Rattle.refusals.specs.Refusals.{number_told};
 ghost use Rattle.std.proofs.lemmas.List.Edits.{sets};
 ghost use Rattle.sheet_page.specs.Page.{sheet_settings, frames_in, voiced_before, voiced_in, row_in, head_good, sizes_good, rows_good, page_no, rows_in, numbers_of};
@@ -51,7 +51,8 @@ fn head(page: &[u8]) -> Option<Held>
     settings_at(page).held().ok()
 }
 
-// How many of the first verdicts are 0.
+// How many of the first verdicts are 0. By the page and a count, since the definition counts by place on the page: of the verdicts as a slice of their own, which was tried, the sections'
+// proof then has to be told what it knows of the page.
 #[tactic(auto, using(crate::specs::PageLaws::voiced_counted))]
 fn voiced_in(page: &[u8], frames: usize) -> usize
     requires { verdicts_at + frames ≤ length page.now }
@@ -127,19 +128,33 @@ impl Sections<'_> {
         row_of(self.settings, 0, index, contour, correlation)
     }
 
+    // Row i, and how many rows are voiced up to it and with it; `seen` rows before it are.
+    fn row_and_seen(self, i: usize, seen: usize) -> Option<(Row, usize)>
+        requires { (i < self.frames) × (seen ≡ voiced_before self.page.now i) }
+        ensures row { IfSome result (λ r. row_in self.entry.page.now i ≡ Some r.0) }
+        ensures seen { IfSome result (λ r. r.1 ≡ voiced_before self.entry.page.now (i + 1)) }
+        ensures none { IfNone result (row_in self.entry.page.now i ≡ None) }
+    {
+        let r = self.row(i, seen)?;
+        if r.verdict == 0 {
+            Some((r, seen + 1))
+        } else {
+            Some((r, seen))
+        }
+    }
+
     // Whether every row can be read.
     #[tactic(auto, using(crate::specs::PageLaws::voiced_none, crate::specs::PageLaws::voiced_le, crate::specs::PageLaws::rows_no, crate::specs::PageLaws::rows_yes))]
     fn rows_good(self) -> bool
         ensures { result ≡ rows_good self.entry.page.now }
     {
         let mut seen = 0;
+        // by the frames' numbers: where a row stands follows from its frame and from how many before it are voiced
         for i in 0..self.frames {
-            let Some(r) = self.row(i, seen) else {
+            let Some((_, next)) = self.row_and_seen(i, seen) else {
                 return false;
             };
-            if r.verdict == 0 {
-                seen += 1;
-            }
+            seen = next;
         }
         true
     }
@@ -174,14 +189,13 @@ impl SheetPage<'_> {
         ensures { table.new ≡ sets table.old 0 (numbers_of (rows_in self.entry.sections.page.now)) }
     {
         let mut seen = 0;
+        // by the frames' numbers, as above
         for i in 0..self.sections.frames {
-            let Some(r) = self.sections.row(i, seen) else {
+            let Some((r, next)) = self.sections.row_and_seen(i, seen) else {
                 return;
             };
             put_row(table, i, r);
-            if r.verdict == 0 {
-                seen += 1;
-            }
+            seen = next;
         }
     }
 }

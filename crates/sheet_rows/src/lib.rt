@@ -9,6 +9,7 @@ use pitch_settings::Held;
 use pitch_table::{Pair, Row};
 
 // The row that these numbers stand for, where they stand for one. Only a voiced one has a pair and a correlation.
+// Plain numbers, and no enum and no struct of them: a table and a page can hold any, and it is here that they are judged. What is judged is a `Pair` and a row.
 pub fn row_of(s: Held, verdict: i32, index: i32, contour: i32, correlation: i32) -> Option<Row>
     ensures value { result ≡ row_of s.settings verdict index contour correlation }
     ensures numbers { row_read_numbers result ≡ answer_numbers (row_no s.settings verdict index contour) (row_values s.settings verdict index contour correlation) }

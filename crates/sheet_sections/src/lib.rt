@@ -78,6 +78,9 @@ pub enum Section {
     Correlations,
 }
 
+// The functions that write take the place where they begin and answer the place after: a type that held the page with its place would be no plainer, since each contract speaks of
+// the page before and after.
+
 impl Section {
     // Whether the row has an entry in the section: each has a verdict, a voiced one a pair and a correlation.
     fn has_entry(self, r: Row) -> bool
@@ -88,9 +91,34 @@ impl Section {
             Section::Pairs | Section::Correlations => r.verdict == 0,
         }
     }
+
+    // The row's bytes in the section, from `at` on; the place after them.
+    fn put_row(self, page: &mut [u8], at: usize, r: Row) -> usize
+        requires { FieldsFit r × (at + length (row_bytes self r) ≤ length page.old) }
+        ensures { Put page.old at (row_bytes self r) result page.new }
+    {
+        if !self.has_entry(r) {
+            return at;
+        }
+        match self {
+            Section::Verdicts => {
+                page[at] = r.verdict as u8;
+                at + VERDICT_BYTES
+            }
+            Section::Pairs => {
+                put_u16(page, at, r.index as u16);
+                page[at + INDEX_BYTES] = r.contour as u8;
+                at + PAIR_BYTES
+            }
+            Section::Correlations => {
+                put_i32(page, at, r.correlation);
+                at + CORRELATION_BYTES
+            }
+        }
+    }
 }
 
-// How many of the first rows are voiced.
+// How many of the first rows are voiced. A table and a count, as a `Sheet` has them: the definition counts among the first rows of a table, and to cut these out before would be no plainer.
 pub fn voiced_rows(table: &[i32], frames: usize) -> usize
     requires { frames * row_size ≤ length table.now }
     ensures { result ≡ length (section_entries Pairs (rows_of table.now frames)) }
@@ -122,9 +150,6 @@ pub fn setting_numbers(settings: Held) -> [i32; SETTINGS_COUNT]
     ]
 }
 
-// The functions that write take the place where they begin and answer the place after: a type that held the page with its place would be no plainer, since each contract speaks of
-// the page before and after.
-
 // Signed numbers from `at` on; the place after them.
 fn put_numbers(page: &mut [u8], at: usize, numbers: &[i32]) -> usize
     requires { at + setting_bytes * length numbers.now ≤ length page.old }
@@ -145,31 +170,6 @@ fn put_settings(page: &mut [u8], settings: Held) -> usize
 {
     put_u32(page, 0, SETTINGS_COUNT as u32);
     put_numbers(page, COUNT_BYTES, &setting_numbers(settings))
-}
-
-// The row's bytes in a section, from `at` on; the place after them.
-fn put_row_bytes(page: &mut [u8], at: usize, which: Section, r: Row) -> usize
-    requires { FieldsFit r × (at + length (row_bytes which r) ≤ length page.old) }
-    ensures { Put page.old at (row_bytes which r) result page.new }
-{
-    if !which.has_entry(r) {
-        return at;
-    }
-    match which {
-        Section::Verdicts => {
-            page[at] = r.verdict as u8;
-            at + VERDICT_BYTES
-        }
-        Section::Pairs => {
-            put_u16(page, at, r.index as u16);
-            page[at + INDEX_BYTES] = r.contour as u8;
-            at + PAIR_BYTES
-        }
-        Section::Correlations => {
-            put_i32(page, at, r.correlation);
-            at + CORRELATION_BYTES
-        }
-    }
 }
 
 // What a sheet is made of, so that it can be written without another test: settings and rows that a sheet can hold, no more than it may have, and how many of them are voiced.
@@ -214,8 +214,9 @@ impl Sheet<'_> {
     {
         put_u32(page, at, self.entries(which) as u32);
         let mut end = at + COUNT_BYTES;
+        // by the rows' numbers, as the table is read: a chunk of eight numbers would still have to be read as a row, and is no plainer
         for i in 0..self.frames {
-            end = put_row_bytes(page, end, which, get_row(self.table, i));
+            end = which.put_row(page, end, get_row(self.table, i));
         }
         end
     }

@@ -1,9 +1,9 @@
 -- Laws of the program's text: a page that is longer than the longest sheet is none, what a reading finds is what the text tells, and the whole outcome.
-use Rattle.std.specs.Prelude.{Result, Ok, Err, ◌≡◌, refl, Bool, true, false, ltb, ℤ, length, drop}
+use Rattle.std.specs.Prelude.{Result, Ok, Err, ◌≡◌, refl, Bool, true, false, ltb, ℤ, length, take, drop}
 use Rattle.std.proofs.Math.Path.{ap}
-use Rattle.std.proofs.Common.{sym, ◌∙◌, ltb-true, ltb-false, length-append}
+use Rattle.std.proofs.Common.{ap₂, sym, ◌∙◌, ltb-true, ltb-false, length-append}
 use mathlib.Core.List.{List, [], ◌∷◌, ◌++◌, append-nil}
-use Prim.Native.Nat.{ℕ, ◌*◌, ◌≤◌, ◌<◌}
+use Prim.Native.Nat.{ℕ, ◌*◌, ◌/◌, ◌≤◌, ◌<◌}
 use native.Mathlib.Omega.{arith}
 use Rattle.lists.specs.FillLaws.{length_tabulate, get_d_tabulate}
 use Rattle.lists.specs.Fill.{overwritten}
@@ -11,7 +11,7 @@ use Rattle.pitch_settings.specs.declared.Settings.{Settings}
 use Rattle.pitch_table.specs.declared.Row.{Row}
 use Rattle.pitch_table.specs.Row.{row_size, most_frames, row_at}
 use Rattle.pitch_text.specs.Text.{refused_text}
-use Rattle.pitch_text.specs.TextLaws.{lines_same}
+use Rattle.pitch_text.specs.TextLaws.{rows_taken, lines_taken, lines_same}
 use Rattle.sheet_sections.specs.Sheet.{sheet_length}
 use Rattle.sheet_page.specs.Page.{sheet_settings, frames_in, row_in, row_found, well_formed, page_no, rows_in, numbers_of}
 use Rattle.sheet_page.specs.PageLaws.{good, voiced_in_le}
@@ -128,6 +128,12 @@ module _ (p : List ℕ) (t : List ℤ) (room : most_frames * row_size ≤ length
             record { bad = h; nine = cc; left = ap (λ (x : ReadOutcome). x.table) o ∙ table_kept p t h }
 
 -- ---- the text of what was read
+
+-- of the table's first rows, taken out of it
+pub report_taken : (s : Settings) (t : List ℤ) (n : ℕ) → n * row_size ≤ length t → sheet_report s (row_at (take (n * row_size) t)) (length (take (n * row_size) t) / row_size) ≡ sheet_report s (row_at t) n
+unfolding sheet_report
+report_taken s t n h = ap₂ (λ (f : ℕ) (l : List ℕ). sheet_head s f ++ l) (rows_taken t n h) (lines_taken s.nb t n h)
+
 module _ {p : List ℕ} {t : List ℤ} {s : Settings} {frames : ℕ} {after : List ℤ} (f : Found p t s frames after) where
   pub few_frames : frames ≤ most_frames
   few_frames = omega (arith, f.count, (good p f.sound).head.few)

@@ -1,19 +1,18 @@
 // What the programs `track` and `track_options` print: their input's bytes are taken apart, tracked, and written as text.
 #![tactic(auto)]
 
-ghost use Rattle.std.specs.Prelude.{◌≡◌, List, ◌++◌, ℕ, ◌<◌, ◌≤◌, pos, length};
-ghost use Rattle.pitch_recording.specs.Recording.{program_frames, recording_samples, recording_bytes, recording_numbers, recording_printed};
+ghost use Rattle.std.specs.Prelude.{◌≡◌, List, ◌++◌, ℕ, ◌<◌, ◌≤◌, length};
+ghost use Rattle.pitch_recording.specs.Recording.{recording_samples, recording_bytes, recording_numbers, recording_printed};
 ghost use Rattle.pitch_text.specs.Text.{Put};
-ghost use Rattle.track_settings.specs.TrackSettings.{stored_settings, track_settings_no};
 ghost use Rattle.track_paper.specs.Paper.{F, paper_table};
 ghost use Rattle.track_text.specs.Program.{longest_head, longest_text, samples_left, track_head, track_report, track_text_call, Tracked};
 
-use pitch_recording::{PROGRAM_FRAMES, take_recording};
+use pitch_recording::{PROGRAM_FRAMES, RecordedTrack, take_recording};
 use pitch_settings::Analysed;
-use pitch_text::{DIGITS_BYTES, LINE_BYTES, put_digits, put_lines, put_refused};
+use pitch_table::ROW_SIZE;
+use pitch_text::{DIGITS_BYTES, LINE_BYTES, put_digits, put_lines, put_refusal};
 use pitch_track::Track;
 use recording_head::Head;
-use track_settings::TrackSettings;
 
 // The longest text: the first line's two numbers, the space between them and its end, and a line for each frame that a program takes.
 pub const LONGEST_TEXT: usize = DIGITS_BYTES + 1 + DIGITS_BYTES + 1 + LINE_BYTES * PROGRAM_FRAMES;
@@ -29,13 +28,13 @@ fn samples_left(s: Analysed, n: usize, frames: usize) -> usize
     n - ((frames - 1) * s.hop_length() + s.frame_length())
 }
 
-// The rows of a fresh track of x, in the table; their number.
-fn track_rows(k: TrackSettings, x: &[i16], table: &mut [i32]) -> usize
-    requires { (track_settings_no k (pos 0) ≡ 0) × (F (stored_settings k) (length x.now) ≤ program_frames) × (recording_numbers ≤ length table.old) }
-    ensures { Tracked k x.now table.old result table.new }
+// The rows of the recording's track, in the table; their number.
+fn track_rows(recorded: RecordedTrack, table: &mut [i32]) -> usize
+    requires { recording_numbers ≤ length table.old }
+    ensures { Tracked recorded.entry.settings recorded.entry.samples.now table.old result table.new }
 {
-    let started = Track::start(k);
-    let delivered = started.track.deliver(x, table);
+    let started = Track::start(recorded.settings);
+    let delivered = started.track.deliver(recorded.samples, table);
     delivered.track.frames
 }
 
@@ -51,18 +50,19 @@ fn put_head(out: &mut [u8], frames: u32, left: u32) -> usize
     q + 1
 }
 
-// The text for the samples x, and its rows in the table.
-fn put_report(k: TrackSettings, x: &[i16], table: &mut [i32], out: &mut [u8]) -> usize
-    requires { (track_settings_no k (pos 0) ≡ 0) × (F (stored_settings k) (length x.now) ≤ program_frames) × (recording_numbers ≤ length table.old) × (longest_text ≤ length out.old) }
-    ensures { Put out.old 0 (track_report k x.now) result out.new × (result ≤ longest_text) × (table.new ≡ paper_table k table.old x.now) }
+// The text for the recording, and its track's rows in the table.
+fn put_report(recorded: RecordedTrack, table: &mut [i32], out: &mut [u8]) -> usize
+    requires { (recording_numbers ≤ length table.old) × (longest_text ≤ length out.old) }
+    ensures { Put out.old 0 (track_report recorded.entry.settings recorded.entry.samples.now) result out.new × (result ≤ longest_text) × (table.new ≡ paper_table recorded.entry.settings table.old recorded.entry.samples.now) }
 {
-    let frames = track_rows(k, x, table);
+    let k = recorded.settings;
+    let frames = track_rows(recorded, table);
     let s = Analysed {
         settings: k.stored(),
     };
-    let left = samples_left(s, x.len(), frames);
+    let left = samples_left(s, recorded.samples.len(), frames);
     let p = put_head(out, frames as u32, left as u32);
-    put_lines(out, p, k.nb, table, frames)
+    put_lines(out, p, k.nb, &table[..frames * ROW_SIZE])
 }
 
 // The text for an input with this head that begins with these bytes and has `more` after them, in the first bytes of `out`; how many they are. The input's samples are left in the first places of
@@ -80,12 +80,13 @@ pub fn track_text(
     ensures upper_bound { result ≤ longest_text }
 {
     match take_recording(head, input, more, samples) {
-        Ok(recording) => put_report(
-            recording.settings,
-            &samples[..recording.samples],
-            table,
-            out,
-        ),
-        Err(refusal) => put_refused(out, 0, refusal),
+        Ok(recording) => {
+            let recorded = RecordedTrack {
+                settings: recording.settings,
+                samples: &samples[..recording.samples],
+            };
+            put_report(recorded, table, out)
+        }
+        Err(refusal) => put_refusal(out, 0, refusal),
     }
 }

@@ -21,7 +21,7 @@ returns-in-Ok-clause-samples_after c =
 
 pub returns-in-Err-clause-samples_after : goal.returns-in-Err-clause-samples_after
 returns-in-Err-clause-samples_after c =
-    let w = c.put_refused-len.ensures in
+    let w = c.put_refusal-len.ensures in
     let r = c.in-Err.ensures in
     let q = put_as w.0 (text_refused c.args.bytes.now (refusal_number c.in-Err.refusal) r.number (refused_positive c.in-Err.refusal refl)) in
     outcome c.args.bytes.now c.args.out.now c.args.samples.now (Err c.in-Err.refusal) (put_count q) r.number (put_over q (omega (arith, w.1, c.requires.1))) r.samples

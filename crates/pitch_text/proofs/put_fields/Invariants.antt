@@ -1,10 +1,8 @@
 -- The invariants of `put_fields`.
-use mathlib.Core.Path.{◌≡◌}
-use Prim.Native.Nat.{◌+◌, ◌*◌, ◌≤◌}
-use lib.ListN.{length, take}
-use Rattle.pitch_text.specs.Text.{Put, fields}
+use Rattle.std.specs.Prelude.{◌≡◌, ◌+◌, ◌*◌, ◌≤◌, length, take}
+use Rattle.pitch_text.specs.Text.{Put, field_bytes, fields}
 use Rattle.pitch_text.proofs.put_fields.Given as goal
 
-abbrev pub invariant-loop-k : goal.invariant-loop-k
-invariant-loop-k l =
-    (length l.out ≡ length l.initial.out) × (l.p ≤ l.at + 12 * l.k) × Put l.initial.out l.at (fields (take l.k l.values)) l.p l.out
+abbrev pub invariant-loop-value : goal.invariant-loop-value
+invariant-loop-value l =
+    (l.value-index ≤ length l.values) × (length l.out ≡ length l.initial.out) × (l.end ≤ l.at + field_bytes * l.value-index) × Put l.initial.out l.at (fields (take l.value-index l.values)) l.end l.out

@@ -14,8 +14,8 @@ loop-i-preserved c =
     let a = c.args in
     let l = c.loop-i in
     let e = c.put_line-p.ensures in
-    let r = ap (line_text l.i a.nb) c.get_row-r.ensures in (
+    let r = ap (line_text l.i a.nb) c.get_row.ensures in (
       c.put_line-p.auto.out ∙ l.invariant.0,
       omega (arith, e.1, l.invariant.1),
-      put_as (put_then l.invariant.2 (put_as e.0 r)) (lines_next a.nb (row_at a.table.now) l.i),
+      put_as (put_then l.invariant.2 (put_as e.0 r)) (lines_next a.nb (row_at a.rows.now) l.i),
     )

@@ -37,13 +37,13 @@ pub put_fields-p-requires : goal.put_fields-p-requires
 unfolding setting_numbers
 put_fields-p-requires c =
     let p = c.put_digits-p in
-    (omega (arith, ap length (others c.args.settings.settings c.setting_numbers-numbers.ensures)), omega (arith, p.ensures.ends, short c.args.settings.settings c.args.settings.held, p.auto.out, c.requires.1))
+    omega (arith, ap length (others c.args.settings.settings c.setting_numbers-numbers.ensures), p.ensures.ends, short c.args.settings.settings c.args.settings.held, p.auto.out, c.requires.1)
 
 pub put_fields-p-requires-2 : goal.put_fields-p-requires-2
 put_fields-p-requires-2 c =
     let p = c.put_digits-p in
     let q = c.put_fields-p in
-    (omega arith, omega (arith, q.ensures.1, q.auto.out, p.ensures.ends, short c.args.settings.settings c.args.settings.held, p.auto.out, c.requires.1))
+    omega (arith, ap length (others c.args.settings.settings c.setting_numbers-numbers.ensures), q.ensures.1, q.auto.out, p.ensures.ends, short c.args.settings.settings c.args.settings.held, p.auto.out, c.requires.1)
 
 pub bounds-out-p : goal.bounds-out-p
 bounds-out-p c =
@@ -61,6 +61,6 @@ returns c =
     let h = c.put_fields-p-2.ensures in
     let f = c.put_fields-p.ensures in
     let d = c.put_digits-p.ensures in
-    let settings = put_as f.0 (ap (λ (l : List ℤ). fields (take (settings_count - 1) l)) (others c.args.settings.settings c.setting_numbers-numbers.ensures)) in
+    let settings = put_as f.0 (ap fields (others c.args.settings.settings c.setting_numbers-numbers.ensures)) in
     let count = put_as h.0 (ap (λ (z : ℤ). fields (z ∷ [])) (r_nat w32 c.args.frames (omega (arith, c.requires.0))).val) in
     (put_then d (put_then settings (put_then count (put_byte _ _ 10))), omega (arith, h.1, f.1, d.ends, short c.args.settings.settings c.args.settings.held))

@@ -14,8 +14,7 @@ put_lines-requires c =
     let h = c.put_head-p in (
       omega (arith, (held_settings c.args.settings.settings c.args.settings.held).nb_high),
       omega (arith, c.requires.0),
-      omega (arith, c.requires.1),
-      omega (arith, h.ensures.1, h.auto.out, c.requires.0, c.requires.2),
+      omega (arith, h.ensures.1, h.auto.out, c.requires.0, c.requires.1),
     )
 
 pub returns : goal.returns

@@ -19,8 +19,9 @@ written k v frames table page w e q = e ∙ ap (λ (s : Settings). write_call s 
 
 pub returns : goal.returns
 returns c =
+    let r = c.args.recorded in
     let o = delivery_outcome c.deliver-delivered.result c.deliver-delivered.new.table in
-    let d = delivered c.args.k _ _ _ o c.deliver-delivered.ensures.table_after c.start-started.ensures.value in
-    let w = written c.args.k _ _ _ c.args.out.now _ c.write_sheet.ensures.page_after c.stored-stored.ensures in
-    let p = sheet_put c.args.k c.args.table.now c.args.x.now c.args.out.now c.requires.0 c.requires.1 c.requires.2 o d c.write_sheet.result c.write_sheet.new.page w in
-    (c.unwrap_or.ensures ∙ p.0, p.1, rows_left c.args.k c.args.table.now c.args.x.now c.args.out.now c.requires.0 c.requires.1 c.requires.2 o d)
+    let d = delivered r.settings _ _ _ o c.deliver-delivered.ensures.table_after c.start-started.ensures.value in
+    let w = written r.settings _ _ _ c.args.out.now _ c.write_sheet.ensures.page_after c.stored-stored.ensures in
+    let p = sheet_put r.settings c.args.table.now r.samples.now c.args.out.now r.accepted c.requires.0 c.requires.1 o d c.write_sheet.result c.write_sheet.new.page w in
+    (c.unwrap_or.ensures ∙ p.0, p.1, rows_left r.settings c.args.table.now r.samples.now c.args.out.now r.accepted c.requires.0 c.requires.1 o d)

@@ -26,27 +26,32 @@ module _ (head : Head) (b : List ℕ) (x y : List ℤ) (n : ℕ) (k : TrackSetti
   small : length (paper_sheet k (take n y)) ≤ longest_program_sheet
   small = small_sheet k (take n y) few
 
-pub slice_bounds-put_track-end : goal.slice_bounds-put_track-end
-slice_bounds-put_track-end c =
+pub slice_bounds-recorded-end : goal.slice_bounds-recorded-end
+slice_bounds-recorded-end c =
     let t = any_taken _ _ _ _ _ _ _ c.take_recording.ensures c.in-Ok.is in
     taken_room _ _ _ _ _ _ t c.take_recording.auto.samples c.requires.1
 
-pub slice_bounds-put_track-end-in-Ok : goal.slice_bounds-put_track-end-in-Ok
-slice_bounds-put_track-end-in-Ok c =
+pub slice_bounds-recorded-end-in-Ok : goal.slice_bounds-recorded-end-in-Ok
+slice_bounds-recorded-end-in-Ok c =
     let t = any_taken _ _ _ _ _ _ _ c.take_recording.ensures c.in-Ok.is in
     sym (length-take-le _ _ (taken_room _ _ _ _ _ _ t c.take_recording.auto.samples c.requires.1))
+
+pub invariant_of-recorded : goal.invariant_of-recorded
+invariant_of-recorded c =
+    let t = any_taken _ _ _ _ _ _ _ c.take_recording.ensures c.in-Ok.is in
+    record { accepted = t.accepted; few = few _ _ _ _ _ _ t c.take_recording.auto.samples c.requires.1 }
 
 pub put_track-requires : goal.put_track-requires
 put_track-requires c =
     let t = any_taken _ _ _ _ _ _ _ c.take_recording.ensures c.in-Ok.is in
     let f = few _ _ _ _ _ _ t c.take_recording.auto.samples c.requires.1 in
     let s = small _ _ _ _ _ _ t c.take_recording.auto.samples c.requires.1 in
-    (t.accepted, few_taken _ _ f c.args.table.now c.requires.2, omega (arith, s, c.requires.3))
+    (few_taken _ _ f c.args.table.now c.requires.2, omega (arith, s, c.requires.3))
 
 pub returns-in-Err : goal.returns-in-Err
 unfolding sheet_bytes_call
 returns-in-Err c =
-    let u = c.put_refused in
+    let u = c.put_refusal in
     let w = u.ensures in record {
       by_index = λ rest e.
           let f = is_refused _ _ _ _ _ (c.take_recording.ensures rest e) _ c.in-Err.is in

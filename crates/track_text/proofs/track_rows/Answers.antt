@@ -6,6 +6,7 @@ use Rattle.track_text.proofs.track_rows.Goals as goal
 
 pub returns : goal.returns
 returns c =
+    let r = c.args.recorded in
     let d = c.deliver-delivered in
-    tracked c.args.k c.args.table.now c.args.x.now c.requires.0 c.requires.1 c.requires.2 (delivery_outcome d.result d.new.table)
-    (d.ensures.table_after ∙ ap (λ (t : Said). deliver_call t.track c.args.table.now c.args.x.now) c.start-started.ensures.value)
+    tracked r.settings c.args.table.now r.samples.now r.accepted r.few c.requires (delivery_outcome d.result d.new.table)
+    (d.ensures.table_after ∙ ap (λ (t : Said). deliver_call t.track c.args.table.now r.samples.now) c.start-started.ensures.value)

@@ -12,31 +12,31 @@ use Rattle.track_text.specs.Program.{track_report, track_text_call}
 use Rattle.track_text.specs.ProgramLaws.{text_refused, text_report}
 use Rattle.track_text.proofs.track_text.Goals as goal
 
-pub slice_bounds-put_report-end : goal.slice_bounds-put_report-end
-slice_bounds-put_report-end c =
+pub slice_bounds-recorded-end : goal.slice_bounds-recorded-end
+slice_bounds-recorded-end c =
     let t = any_taken _ _ _ _ _ _ _ c.take_recording.ensures c.in-Ok.is in
     taken_room _ _ _ _ _ _ t c.take_recording.auto.samples c.requires.1
 
-pub slice_bounds-put_report-end-in-Ok : goal.slice_bounds-put_report-end-in-Ok
-slice_bounds-put_report-end-in-Ok c =
+pub slice_bounds-recorded-end-in-Ok : goal.slice_bounds-recorded-end-in-Ok
+slice_bounds-recorded-end-in-Ok c =
     let t = any_taken _ _ _ _ _ _ _ c.take_recording.ensures c.in-Ok.is in
     sym (length-take-le _ _ (taken_room _ _ _ _ _ _ t c.take_recording.auto.samples c.requires.1))
 
-pub put_report-requires : goal.put_report-requires
-put_report-requires c =
+pub invariant_of-recorded : goal.invariant_of-recorded
+invariant_of-recorded c =
     let t = any_taken _ _ _ _ _ _ _ c.take_recording.ensures c.in-Ok.is in
     let r = taken_room _ _ _ _ _ _ t c.take_recording.auto.samples c.requires.1 in
-    (t.accepted, rw (length-take-le _ _ r) t.few, c.requires.2, c.requires.3)
+    record { accepted = t.accepted; few = rw (length-take-le _ _ r) t.few }
 
 pub returns-in-Err : goal.returns-in-Err
 unfolding track_text_call
 returns-in-Err c =
-    let w = c.put_refused.ensures in record {
+    let w = c.put_refusal.ensures in record {
       by_index = λ rest e.
           let f = is_refused _ _ _ _ _ (c.take_recording.ensures rest e) _ c.in-Err.is in
           let b = c.args.input.now ++ rest in
           let q = put_as w.0 (text_refused c.args.head b _ f.number_is f.some_number) in
-          ap (λ (x : List ℤ). recording_printed c.put_refused.result c.put_refused.new.out x c.args.table.now) f.samples_stay
+          ap (λ (x : List ℤ). recording_printed c.put_refusal.result c.put_refusal.new.out x c.args.table.now) f.samples_stay
           ∙ printed_refused c.args.head b _ c.args.out.now c.args.samples.now c.args.table.now (put_count q) (put_over q (omega (arith, w.1, c.requires.3))) _ f.number_is f.some_number;
       upper_bound = omega (arith, w.1);
     }

@@ -37,12 +37,12 @@ loop-i-init c = (omega arith, put_none c.put_u32.new.page (c.args.at + count_byt
 pub get_row-requires : goal.get_row-requires
 get_row-requires c = omega (arith, c.args.self.whole)
 
-pub put_row_bytes-end-requires : goal.put_row_bytes-end-requires
-put_row_bytes-end-requires c =
+pub put_row-end-requires : goal.put_row-end-requires
+put_row-end-requires c =
     let s = c.args.self in
     let e = c.get_row.ensures in (
       rw e (holds_fit s.settings.settings (row_at s.table.now c.loop-i.i) (s.rows c.loop-i.i (omega arith))),
-      rw e (omega (arith, rows_bytes_room c.args.which s.table.now c.loop-i.i s.frames (omega arith), room (goal.at.put_row_bytes-end-requires c).Start)),
+      rw e (omega (arith, rows_bytes_room c.args.which s.table.now c.loop-i.i s.frames (omega arith), room (goal.at.put_row-end-requires c).Start)),
     )
 
 pub loop-i-preserved : goal.loop-i-preserved
@@ -50,8 +50,8 @@ loop-i-preserved c =
     let which = c.args.which in
     let t = c.args.self.table.now in
     let i = c.loop-i.i in
-    let one : Put c.loop-i.page c.loop-i.end (row_bytes which (row_at t i)) c.put_row_bytes-end.result c.put_row_bytes-end.new.page =
-    rw (ap (row_bytes which) c.get_row.ensures) at c.put_row_bytes-end.ensures in
+    let one : Put c.loop-i.page c.loop-i.end (row_bytes which (row_at t i)) c.put_row-end.result c.put_row-end.new.page =
+    rw (ap (row_bytes which) c.get_row.ensures) at c.put_row-end.ensures in
     (omega arith, rw (rows_bytes_next which t i) (put_then c.loop-i.invariant.1 one))
 
 pub returns : goal.returns
