@@ -71,6 +71,9 @@ eight_bytes xs at =
 pub i16_cut : (xs : List ℕ) (place from : ℕ) → from ≡ min place (length xs) → i16_at xs from ≡ i16_at xs place
 i16_cut xs = at_cut (pos 0) (i16_at xs) (length xs) (i16_past xs)
 
+pub u32_cut : (xs : List ℕ) (place from : ℕ) → from ≡ min place (length xs) → u32_at xs from ≡ u32_at xs place
+u32_cut xs = at_cut 0 (u32_at xs) (length xs) (u32_past xs)
+
 pub i32_cut : (xs : List ℕ) (place from : ℕ) → from ≡ min place (length xs) → i32_at xs from ≡ i32_at xs place
 i32_cut xs = at_cut (pos 0) (i32_at xs) (length xs) (i32_past xs)
 

@@ -8,13 +8,14 @@ ghost use Rattle.std.specs.Io.KnownBytes.{Appends, Consumes, IsAtEnd};
 ghost use Rattle.std.specs.Fn.{FnReturnsAt};
 ghost use Rattle.lists.specs.Fill.{filled};
 ghost use Rattle.cases_io.specs.Little.{u16_at, u32_at, u64_at, i16_at, i32_at, numbers_at, agree};
-ghost use Rattle.cases_io.specs.LittleLaws.{byte_cut, i16_cut, i32_cut};
+ghost use Rattle.cases_io.specs.LittleLaws.{byte_cut, i16_cut, i32_cut, u32_cut};
 ghost use Rattle.cases_io.specs.Counts.{same_settings, counted, tally, tally_after, tally_plus, counted_at, totals_of};
 ghost use Rattle.cases_io.specs.Replay.{Replayed};
 ghost use Rattle.cases_io.specs.declared.Tally.{Tally};
 ghost use Rattle.cases_io.specs.Lines.{tally_line, report_text};
 
 use pitch_settings::Settings;
+use recording_io::{Filled, fill};
 use std::io;
 use std::io::{Read, Write};
 use zint::{as_i16, low32};
@@ -29,24 +30,19 @@ pub struct Tally {
 // The bytes of a list of cases at most.
 pub const LIST_BYTES: usize = 1048576;
 
-// Reads until `buf` is full or the input ends, and returns how many bytes it put at the start of `buf`. On an empty `buf` it makes no call.
+// Reads until `buf` is full or the input ends, as `fill` does, and returns how many bytes it put at the start of `buf`. On an empty `buf` it makes no call.
 pub fn read_full<R: Read>(input: &mut R, buf: &mut [u8]) -> io::Result<usize>
     ensures bound { ReadsAtMost result buf.new }
     ensures bytes { IfOk result (λ n. Consumes (R.remaining input.old) (R.remaining input.new) (take n buf.new)) }
     ensures end { IfOk result (λ n. n < length buf.new → IsAtEnd (R.remaining input.new)) }
 {
-    let mut done = 0;
-    while done < buf.len() {
-        let n = input.read(&mut buf[done..])?;
-        if n == 0 {
-            break;
-        }
-        done += n;
-    }
-    Ok(done)
+    let Filled { count, end } = fill(input, buf);
+    end?;
+    Ok(count)
 }
 
 // The byte at `at`, or 0 past the end.
+#[tactic(auto, using(crate::specs::LittleLaws::byte_past))]
 pub fn byte_at(bytes: &[u8], at: usize) -> u8
     ensures { result ≡ slice_index bytes.now at }
 {
@@ -54,6 +50,7 @@ pub fn byte_at(bytes: &[u8], at: usize) -> u8
 }
 
 // The number of two bytes at `at`, without sign.
+#[tactic(auto, using(crate::specs::LittleLaws::two_bytes))]
 pub fn u16_at(bytes: &[u8], at: usize) -> u16
     ensures { result ≡ u16_at bytes.now at }
 {
@@ -63,6 +60,7 @@ pub fn u16_at(bytes: &[u8], at: usize) -> u16
 }
 
 // The number of four bytes at `at`, without sign: a length or a count.
+#[tactic(auto, using(crate::specs::LittleLaws::four_bytes))]
 pub fn u32_at(bytes: &[u8], at: usize) -> usize
     ensures { (result ≡ u32_at bytes.now at) × (result < 4294967296) }
 {
@@ -72,6 +70,7 @@ pub fn u32_at(bytes: &[u8], at: usize) -> usize
 }
 
 // The number of eight bytes at `at`, without sign.
+#[tactic(auto, using(crate::specs::LittleLaws::eight_bytes))]
 pub fn usize_at(bytes: &[u8], at: usize) -> usize
     ensures { result ≡ u64_at bytes.now at }
 {
@@ -158,6 +157,21 @@ impl Little for i32 {
     }
 }
 
+// Four bytes without sign: a length, a count or a place.
+impl Little for usize {
+    ghost value_at = { u32_at };
+
+    ghost SIZE = { 4 };
+
+    const SIZE: usize = 4;
+
+    ghost cut = { u32_cut };
+
+    fn at(bytes: &[u8], at: usize) -> usize {
+        u32_at(bytes, at)
+    }
+}
+
 // Number i of those that stand from `at` on.
 pub fn nth<T: Little>(bytes: &[u8], at: usize, i: usize) -> T
     ensures { result ≡ T.value_at bytes.now (at + T.SIZE * i) }
@@ -165,12 +179,12 @@ pub fn nth<T: Little>(bytes: &[u8], at: usize, i: usize) -> T
     T::at(bytes, skip(bytes, at, i.saturating_mul(T::SIZE)))
 }
 
-// Fills out with the numbers from `at` on. By index here and in `same`: the index gives the number's place too, and an iterator would be paired with its indices again, which is no plainer.
+// Fills out with the numbers from `at` on.
 pub fn load<T: Little>(bytes: &[u8], at: usize, out: &mut [T])
     ensures { out.new ≡ filled (numbers_at T.value_at T.SIZE bytes.now at) (length out.old) out.old }
 {
-    for i in 0..out.len() {
-        out[i] = nth(bytes, at, i);
+    for (i, number) in out.iter_mut().enumerate() {
+        *number = nth(bytes, at, i);
     }
 }
 
@@ -178,8 +192,8 @@ pub fn load<T: Little>(bytes: &[u8], at: usize, out: &mut [T])
 pub fn same<T: Little>(bytes: &[u8], at: usize, xs: &[T]) -> bool
     ensures { result ≡ agree T.eq (numbers_at T.value_at T.SIZE bytes.now at) xs.now (length xs.now) }
 {
-    for i in 0..xs.len() {
-        if xs[i] != nth(bytes, at, i) {
+    for (i, x) in xs.iter().enumerate() {
+        if *x != nth(bytes, at, i) {
             return false;
         }
     }
@@ -203,7 +217,8 @@ pub fn settings_at(bytes: &[u8], at: usize) -> Settings
     }
 }
 
-// Whether the two are the same settings. The contract says what `==` of the derive compares: each of the five numbers.
+// Whether the two are the same settings: the derived `==`, as a function of its own since the contract says what it compares, each of the five numbers.
+#[tactic(auto, unfolding(crate::specs::Counts::same_settings))]
 pub fn same_settings(a: Settings, b: Settings) -> bool
     ensures { result ≡ same_settings a b }
 {
@@ -211,6 +226,7 @@ pub fn same_settings(a: Settings, b: Settings) -> bool
 }
 
 // A count after one case more, which counts or does not.
+#[tactic(auto, unfolding(crate::specs::Counts::counted))]
 fn counted(n: u64, counts: bool) -> u64
     ensures { result ≡ counted counts n }
 {
@@ -229,6 +245,7 @@ impl Tally {
     }
 
     // One case more.
+    #[tactic(auto, unfolding(crate::specs::Counts::tally_after))]
     pub fn counted(self, agrees: bool) -> Tally
         ensures { result ≡ tally_after self agrees }
     {
@@ -239,6 +256,7 @@ impl Tally {
     }
 
     // The counts of both.
+    #[tactic(auto, unfolding(crate::specs::Counts::tally_plus))]
     fn plus(self, other: Tally) -> Tally
         ensures { result ≡ tally_plus self other }
     {
@@ -259,7 +277,8 @@ impl Tally {
     }
 }
 
-// One record more of this kind: its tally changes, all others stay.
+// One record more of this kind: its tally changes, all others stay. A kind is a number here, since it is no more than the place of its tally; which kinds there are is each list's own.
+#[tactic(auto, unfolding(crate::specs::Counts::counted_at))]
 pub fn count(tallies: &mut [Tally], kind: usize, agrees: bool)
     requires { kind < length tallies.old }
     ensures { tallies.new ≡ counted_at tallies.old kind agrees }
@@ -276,13 +295,13 @@ pub fn totals(tallies: &[Tally]) -> Tally
         .fold(Tally::none(), |sum, tally| sum.plus(*tally))
 }
 
-// A line for each kind, and one for all. By index: a kind is its index, and the line names it.
+// A line for each kind, and one for all.
 pub fn report<W: Write>(output: &mut W, tallies: &[Tally]) -> io::Result<()>
     ensures { OnOk result (Appends (W.contents output.old) (W.contents output.new) (report_text tallies.now)) }
 {
-    for kind in 0..tallies.len() {
+    for (kind, tally) in tallies.iter().enumerate() {
         write!(output, "kind {kind}")?;
-        tallies[kind].print(output, b":")?;
+        tally.print(output, b":")?;
     }
     totals(tallies).print(output, b"all:")
 }
@@ -302,6 +321,7 @@ pub fn replay<W: Write, S: Fn(&[u8]) -> usize, A: Fn(&[u8]) -> Option<bool>>(
 {
     let mut tally = Tally::none();
     let mut rest = list;
+    // A `while`: a turn takes as many bytes as its case has, so there is no index and no iterator of equal parts.
     while !rest.is_empty() {
         let (case, after) = rest.split_at(size(rest).max(1).min(rest.len()));
         if let Some(agreed) = agrees(case) {
@@ -330,6 +350,7 @@ pub fn replay_input<T: Records<HEAD, KINDS>, const HEAD: usize, const KINDS: usi
     most: usize,
 ) -> io::Result<[Tally; KINDS]> {
     let mut tallies = [Tally::none(); KINDS];
+    // A `for` over a range: it counts records that are read, and no index.
     for _ in 0..most {
         let mut head = [0; HEAD];
         if read_full(input, &mut head)? < HEAD {

@@ -11,6 +11,7 @@ ghost use Rattle.recording_io.specs.declared.Failure.TheVariants.{Reading};
 ghost use Rattle.recording_io.specs.ReadAnswer.{most_reads, so_far};
 
 use rooms::room;
+use std::io;
 use std::io::{Read, Write};
 
 // The reads after which `read_whole` stops counting, where it is to count the whole rest: 2 to the 40.
@@ -44,22 +45,48 @@ impl<T: Copy> From<Unread<T>> for Failure {
     }
 }
 
-// Reads the input until `buf` is full, the input ends or a read fails; then `buf` is not full. Of the bytes past the count nothing is known.
+// What reading into a buffer brought, and how it ended: the buffer was full or the input at its end, or a read failed with this error.
+#[derive(Drop)]
+pub struct Filled {
+    pub count: usize,
+    pub end: io::Result<()>,
+}
+
+// Reads the input until `buf` is full, the input ends or a read fails; then `buf` is not full. Of the bytes past the count nothing is known. On an empty `buf` it makes no call.
+#[tactic(auto, using(crate::specs::FilledLaws::filled_more))]
+pub fn fill<R: Read>(input: &mut R, buf: &mut [u8]) -> Filled
+    ensures prefix_len { IsPrefixLen result.count buf.new }
+    ensures unread { OnErr result.end (result.count < length buf.new) }
+    ensures bytes { Consumes (R.remaining input.old) (R.remaining input.new) (take result.count buf.new) }
+    ensures end { OnOk result.end (result.count < length buf.new → IsAtEnd (R.remaining input.new)) }
+{
+    let mut count = 0;
+    // A `while`: what it counts is the bytes that the reads bring, and no index.
+    while count < buf.len() {
+        match input.read(&mut buf[count..]) {
+            Ok(0) => break,
+            Ok(more) => count += more,
+            Err(error) => return Filled {
+                count,
+                end: Err(error),
+            },
+        }
+    }
+    Filled { count, end: Ok(()) }
+}
+
+// Fills `buf` as `fill` does; where a read failed, the error is what came before it.
 pub fn read_input<R: Read>(input: &mut R, buf: &mut [u8]) -> Result<usize, Unread<usize>>
     ensures prefix_len { IsPrefixLen (so_far result) buf.new }
     ensures unread { OnErr result (so_far result < length buf.new) }
     ensures bytes { Consumes (R.remaining input.old) (R.remaining input.new) (take (so_far result) buf.new) }
     ensures end { IfOk result (λ count. count < length buf.new → IsAtEnd (R.remaining input.new)) }
 {
-    let mut done = 0;
-    while done < buf.len() {
-        match input.read(&mut buf[done..]) {
-            Ok(0) => return Ok(done),
-            Ok(count) => done += count,
-            Err(_) => return Err(Unread { so_far: done }),
-        }
+    let Filled { count, end } = fill(input, buf);
+    match end {
+        Ok(()) => Ok(count),
+        Err(_) => Err(Unread { so_far: count }),
     }
-    Ok(done)
 }
 
 // How many bytes are left to read, by so many reads at most.
@@ -71,6 +98,7 @@ fn count_rest<R: Read>(input: &mut R, reads: usize) -> Result<usize, Unread<usiz
 {
     let mut chunk = room::<u8, 65536>(0);
     let mut total = 0;
+    // A `for` over a range: it counts reads, and no index.
     for _ in 0..reads {
         match input.read(&mut chunk) {
             Ok(0) => return Ok(total),
