@@ -54,6 +54,7 @@ fn down2_step(s0: i32, s1: i32, a: i16, b: i16) -> Step<i16>
 }
 
 // Half the rate: in_len / 2 outputs, and the two states of s moved on.
+// The source's signature: the port goes function by function. By place: of what a `zip` with `iter_mut` writes a proof knows nothing.
 pub fn silk_resampler_down2(s: &mut [i32], out: &mut [i16], input: &[i16], in_len: usize)
     requires { (2 ≤ length s.old) × ((in_len / 2 ≤ length out.old) × (in_len ≤ length input.now)) }
     ensures out_after { out.new ≡ filled (halved (sample s.old 0) (sample s.old 1) (sample input.now)) (in_len / 2) out.old }
@@ -102,6 +103,7 @@ fn ar2_step(s0: i32, s1: i32, x: i16, a0: i32, a1: i32, filter: Filter) -> Step<
 }
 
 // The second-order recursion with the coefficients a_q14: len outputs, and the two states of s moved on.
+// The source's signature: the port goes function by function. By place, as in `silk_resampler_down2`.
 pub fn silk_resampler_private_ar2(
     s: &mut [i32],
     out_q8: &mut [i32],
@@ -164,6 +166,7 @@ fn odd_output(buf: &[i32], m: usize, filter: Filter) -> i16
 }
 
 // Two outputs for every three values of buf, n times. By places and not by chunks: the outputs of three values read two values of the next three as well.
+// By a number of turns, for the same reason: the parts of out and buf would be of different lengths, 2n and 3n + 2.
 fn decimate(out: &mut [i16], buf: &[i32], n: usize, filter: Filter)
     requires { (2 * n ≤ length out.old) × (3 * n + 2 ≤ length buf.now) }
     ensures { out.new ≡ filled (decimated filter (sample buf.now)) (2 * n) out.old }
@@ -176,7 +179,7 @@ fn decimate(out: &mut [i16], buf: &[i32], n: usize, filter: Filter)
     }
 }
 
-// Two thirds of the rate by a filter, one batch: 2 (in_len / 3) outputs, and the six states of s moved on.
+// Two thirds of the rate by a filter, one batch: 2 (in_len / 3) outputs, and the six states of s moved on. The source's signature, but for the filter: the port goes function by function.
 pub fn silk_resampler_down2_3(
     s: &mut [i32],
     out: &mut [i16],

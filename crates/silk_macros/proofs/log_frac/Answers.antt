@@ -15,9 +15,3 @@ unfolding log_frac
 returns c =
     let f = sfits_by w32 (n 128 ⊖ v c.args.f) (omega (zarith, c.requires)) (omega (zarith, c.requires)) in
     search (zneeds, via3 smlawb, f) depth 12
-
-pub silk_mul-requires : goal.silk_mul-requires
-silk_mul-requires c = search zneeds
-
-pub silk_smlawb-requires : goal.silk_smlawb-requires
-silk_smlawb-requires c = search zneeds

@@ -5,7 +5,6 @@ use Rattle.zint.specs.ReadLaws.{r_var, r_call2, r_call3, r_shl}
 use Rattle.zint.specs.Wrap.{wrap}
 use mir.Syntax.{w32}
 use lib.IntN.{ℤ, ◌-ℤ◌}
-use Rattle.zint.specs.RuleLaws.{zneeds}
 use Rattle.silk_macros.proofs.refined.Goals as goal
 
 pub returns : goal.returns
@@ -19,15 +18,3 @@ returns c =
     let p = r_call2 w32 smmul m.type_inv (r_var f.bn) r m.ensures in
     let e = r_call2 w32 (λ (x y : ℤ). wrap w32 (x -ℤ y)) d.type_inv (r_var f.an) (r_shl 8 p) d.ensures in
     (r_call3 w32 smlawb c.silk_smlawb.type_inv r e (r_var f.inv) c.silk_smlawb.ensures).val
-
-pub silk_smulwb-r0-requires : goal.silk_smulwb-r0-requires
-silk_smulwb-r0-requires c = search zneeds
-
-pub silk_smmul-requires : goal.silk_smmul-requires
-silk_smmul-requires c = search zneeds
-
-pub wrapping_sub_i32-an2-requires : goal.wrapping_sub_i32-an2-requires
-wrapping_sub_i32-an2-requires c = search zneeds
-
-pub silk_smlawb-requires : goal.silk_smlawb-requires
-silk_smlawb-requires c = search zneeds

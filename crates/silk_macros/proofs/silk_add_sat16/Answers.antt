@@ -4,7 +4,6 @@ use Rattle.zint.specs.BoundLaws.{add_32}
 use Rattle.zint.specs.Clamp.{sat}
 use Rattle.zint.specs.ClampLaws.{sat_fits}
 use Rattle.zint.specs.ReadLaws.{r_add, r_call1, r_cast, f_cast, r_got, wide_32}
-use Rattle.zint.specs.RuleLaws.{zneeds}
 use Rattle.silk_macros.proofs.silk_add_sat16.Goals as goal
 
 pub overflow_cast-result : goal.overflow_cast-result
@@ -15,15 +14,3 @@ returns c =
     let f = c.ranges in
     let s = r_add (wide_32 f.a) (wide_32 f.b) (add_32 f.a f.b) in
     (r_cast (r_call1 w32 (sat w16) c.silk_sat16.type_inv s c.silk_sat16.ensures) (sat_fits w16 _)).val
-
-pub overflow_cast-a : goal.overflow_cast-a
-overflow_cast-a c = search zneeds
-
-pub overflow_cast-b : goal.overflow_cast-b
-overflow_cast-b c = search zneeds
-
-pub overflow_add-a : goal.overflow_add-a
-overflow_add-a c = search zneeds
-
-pub silk_sat16-requires : goal.silk_sat16-requires
-silk_sat16-requires c = search zneeds

@@ -79,12 +79,3 @@ overflow_add-result c = f_add (fraction c) (shifted c) (lin2log_fits _)
 pub returns : goal.returns
 unfolding lin2log lin2log_pos
 returns c = sel_no _ _ _ _ (test c.ranges.gain_q16 c.if-gain_q16-le0.false) (r_add (fraction c) (shifted c) (lin2log_fits _)).val
-
-pub silk_clz_frac-c-requires : goal.silk_clz_frac-c-requires
-silk_clz_frac-c-requires c = search zneeds
-
-pub overflow_cast-c : goal.overflow_cast-c
-overflow_cast-c c = search zneeds
-
-pub silk_lshift-requires : goal.silk_lshift-requires
-silk_lshift-requires c = search zneeds

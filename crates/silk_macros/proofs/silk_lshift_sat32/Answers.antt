@@ -8,7 +8,6 @@ use Rattle.zint.specs.BoundLaws.{abs_ud}
 use Rattle.zint.specs.Clamp.{sat}
 use Rattle.zint.specs.DiffLaws.{nonneg_dn, zarith}
 use Rattle.zint.specs.ReadLaws.{wide_64, r_shl, r_as, r_call1}
-use Rattle.zint.specs.RuleLaws.{zneeds}
 use Rattle.zint.specs.ShiftLaws.{wide_amount}
 use Rattle.zint.specs.Wrap.{wrap}
 use Rattle.silk_macros.specs.Macros.{lshift_sat32}
@@ -26,12 +25,3 @@ returns c =
     let a = c.args.a in
     let p = r_as (r_shl _ (wide_64 c.ranges.a)) (ap (λ (k : ℕ). wrap w64 (a *ℤ pos (2 ^ k))) (amount-is c.before)) in
     (r_call1 w32 (sat w32) c.sat32.type_inv p c.sat32.ensures).val
-
-pub overflow_cast-a : goal.overflow_cast-a
-overflow_cast-a c = search zneeds
-
-pub overflow_cast-shift : goal.overflow_cast-shift
-overflow_cast-shift c = search zneeds
-
-pub sat32-requires : goal.sat32-requires
-sat32-requires c = search zneeds

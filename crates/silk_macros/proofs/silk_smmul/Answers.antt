@@ -12,12 +12,3 @@ overflow_cast-result-3 c = fit_as (smmul_fits c.ranges.a c.ranges.b) (search zne
 pub returns : goal.returns
 unfolding smmul
 returns c = search (zneeds, smmul_fits)
-
-pub overflow_cast-result : goal.overflow_cast-result
-overflow_cast-result c = search zneeds
-
-pub overflow_cast-result-2 : goal.overflow_cast-result-2
-overflow_cast-result-2 c = search zneeds
-
-pub overflow_mul-result : goal.overflow_mul-result
-overflow_mul-result c = search zneeds

@@ -12,9 +12,3 @@ overflow_mul-result c = fit_as (smulbb_fits c.args.a c.args.b) (search zneeds de
 pub returns : goal.returns
 unfolding smulbb
 returns c = search (zneeds, smulbb_fits) depth 10
-
-pub low16-requires : goal.low16-requires
-low16-requires c = search zneeds
-
-pub low16-requires-2 : goal.low16-requires-2
-low16-requires-2 c = search zneeds

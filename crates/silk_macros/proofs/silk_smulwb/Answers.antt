@@ -12,15 +12,3 @@ overflow_cast-result-3 c = fit_as (smulwb_fits c.args.b c.ranges.a) (search znee
 pub returns : goal.returns
 unfolding smulwb
 returns c = search (zneeds, smulwb_fits) depth 10 fits 10000
-
-pub overflow_cast-result : goal.overflow_cast-result
-overflow_cast-result c = search zneeds
-
-pub low16-requires : goal.low16-requires
-low16-requires c = search zneeds
-
-pub overflow_cast-result-2 : goal.overflow_cast-result-2
-overflow_cast-result-2 c = search zneeds
-
-pub overflow_mul-result : goal.overflow_mul-result
-overflow_mul-result c = search zneeds

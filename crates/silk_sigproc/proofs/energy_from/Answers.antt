@@ -7,7 +7,6 @@ use Rattle.zint.specs.Wrap.{wrap}
 use Rattle.zint.specs.ReadLaws.{r_got}
 use Rattle.lists.specs.FillLaws.{tail_part}
 use Rattle.silk_sigproc.specs.Dot.{dot}
-use Rattle.zint.specs.RuleLaws.{zneeds}
 use Rattle.silk_sigproc.proofs.energy_from.Goals as goal
 
 pub returns : goal.returns
@@ -15,18 +14,3 @@ returns c =
     let f = c.silk_inner_prod_aligned in
     let a = c.args in
     (r_got w32 f.type_inv (f.ensures ∙ ap (λ (x : List ℤ). wrap w32 (dot x x a.len)) (tail_part a.start a.x.now))).val
-
-pub offset_bounds-x-start : goal.offset_bounds-x-start
-offset_bounds-x-start c = search zneeds
-
-pub slice_bounds-part-count : goal.slice_bounds-part-count
-slice_bounds-part-count c = search zneeds
-
-pub slice_bounds-part-start : goal.slice_bounds-part-start
-slice_bounds-part-start c = search zneeds
-
-pub slice_bounds-part-end : goal.slice_bounds-part-end
-slice_bounds-part-end c = search zneeds
-
-pub silk_inner_prod_aligned-requires : goal.silk_inner_prod_aligned-requires
-silk_inner_prod_aligned-requires c = search zneeds

@@ -3,7 +3,6 @@ use lib.IntN.{ℤ, ◌+ℤ◌}
 use mir.Syntax.{w32}
 use Rattle.zint.specs.BoundLaws.{mul_32}
 use Rattle.zint.specs.ReadLaws.{wide_32, r_var, r_mul, f_mul, r_call2}
-use Rattle.zint.specs.RuleLaws.{zneeds}
 use Rattle.zint.specs.Wrap.{wrap}
 use Rattle.silk_sigproc.proofs.mac16_16.Goals as goal
 
@@ -15,12 +14,3 @@ returns c =
     let f = c.ranges in
     let p = r_mul (wide_32 f.b) (wide_32 f.c) (mul_32 f.b f.c) in
     (r_call2 w32 (λ (s t : ℤ). wrap w32 (s +ℤ t)) c.wrapping_add_i32.type_inv (r_var f.a) p c.wrapping_add_i32.ensures).val
-
-pub overflow_cast-b : goal.overflow_cast-b
-overflow_cast-b c = search zneeds
-
-pub overflow_cast-c : goal.overflow_cast-c
-overflow_cast-c c = search zneeds
-
-pub wrapping_add_i32-requires : goal.wrapping_add_i32-requires
-wrapping_add_i32-requires c = search zneeds

@@ -4,7 +4,6 @@ use lib.IntN.{◌*ℤ◌}
 use mir.Syntax.{w16, w32}
 use Rattle.zint.specs.WrapLaws.{wrap_id}
 use Rattle.zint.specs.ReadLaws.{wide_32, r_call2}
-use Rattle.zint.specs.RuleLaws.{zneeds}
 use Rattle.silk_macros.specs.Macros.{smulbb}
 use Rattle.silk_sigproc.proofs.square.Goals as goal
 
@@ -14,12 +13,3 @@ returns c =
     let f = c.ranges.x in
     (r_call2 w32 smulbb c.silk_smulbb.type_inv (wide_32 f) (wide_32 f) c.silk_smulbb.ensures).val
     ∙ ap₂ ◌*ℤ◌ (wrap_id w16 c.args.x f) (wrap_id w16 c.args.x f)
-
-pub overflow_cast-x : goal.overflow_cast-x
-overflow_cast-x c = search zneeds
-
-pub overflow_cast-x-2 : goal.overflow_cast-x-2
-overflow_cast-x-2 c = search zneeds
-
-pub silk_smulbb-requires : goal.silk_smulbb-requires
-silk_smulbb-requires c = search zneeds
