@@ -1,14 +1,7 @@
 -- `silk_tables::contours_in_use` meets its contract: the last stage's count.
 use mathlib.Core.Path.{sym, ◌∙◌}
 use Rattle.silk_tables.specs.ContourLaws.{contours_8, contours_other}
-use borrow.Author.Rules.{rules}
 use Rattle.silk_tables.proofs.contours_in_use.Goals as goal
-
-pub nb_cbk_search_stage2-requires : goal.nb_cbk_search_stage2-requires
-nb_cbk_search_stage2-requires c = search rules
-
-pub nb_cbk_search-requires : goal.nb_cbk_search-requires
-nb_cbk_search-requires c = search rules
 
 pub returns-then-fs_khz-eq8 : goal.returns-then-fs_khz-eq8
 returns-then-fs_khz-eq8 c =

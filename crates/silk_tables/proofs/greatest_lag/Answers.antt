@@ -1,11 +1,7 @@
 -- `silk_tables::greatest_lag` meets its contract.
 use mathlib.Core.Path.{sym}
 use Rattle.silk_tables.specs.ContourLaws.{greatest_lag_8, greatest_lag_other}
-use borrow.Author.Rules.{rules}
 use Rattle.silk_tables.proofs.greatest_lag.Goals as goal
-
-pub overflow_mul-result : goal.overflow_mul-result
-overflow_mul-result c = search rules
 
 pub returns-then-fs_khz-eq8 : goal.returns-then-fs_khz-eq8
 returns-then-fs_khz-eq8 c = sym (greatest_lag_8 c.args.fs_khz c.if-fs_khz-eq8.true)

@@ -1,11 +1,7 @@
 -- `silk_tables::nb_cbk_search` meets its contract.
 use mathlib.Core.Path.{sym}
 use Rattle.silk_tables.proofs.TableLaws.{in_use_4, in_use_other}
-use borrow.Author.Rules.{rules}
 use Rattle.silk_tables.proofs.nb_cbk_search.Goals as goal
-
-pub offset_bounds-complexity : goal.offset_bounds-complexity
-offset_bounds-complexity c = search rules
 
 pub returns-then-nb_subfr-eq-PE_MAX_NB_SUBFR : goal.returns-then-nb_subfr-eq-PE_MAX_NB_SUBFR
 returns-then-nb_subfr-eq-PE_MAX_NB_SUBFR c = sym (in_use_4 c.args.nb_subfr c.args.complexity c.if-nb_subfr-eq-PE_MAX_NB_SUBFR.true)

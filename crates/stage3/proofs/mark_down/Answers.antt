@@ -6,7 +6,6 @@ use Rattle.zint.specs.ReadLaws.{Reads, r_var, r_nat, r_lit, r_mul, r_sub, r_call
 use Rattle.silk_macros.specs.Macros.{smulwb}
 use Rattle.stage3.specs.Pick.{biased}
 use Rattle.stage3.specs.PickLaws.{product_fits, diff_fits}
-use Rattle.zint.specs.RuleLaws.{zneeds}
 use native.Mathlib.Omega.{arith}
 use Rattle.stage3.proofs.mark_down.Goals as goal
 
@@ -35,9 +34,3 @@ unfolding biased
 returns c =
     let s = c.before in
     (r_call2 w32 smulwb c.silk_smulwb.type_inv (r_var s.ranges.cc_max_new) (r_sub (r_lit w32 32767 tt) (product s) (rest s)) c.silk_smulwb.ensures).val
-
-pub overflow_cast-diff : goal.overflow_cast-diff
-overflow_cast-diff c = search zneeds
-
-pub silk_smulwb-requires : goal.silk_smulwb-requires
-silk_smulwb-requires c = search zneeds

@@ -14,7 +14,6 @@ use Rattle.stage3_arrays.specs.Arrays.{LagInFrame}
 use Rattle.silk_tables.specs.ContourLaws.{greatest_lag_le}
 use Rattle.stage3.specs.SearchLaws.{array_pick}
 use Rattle.stage3.specs.NumberLaws.{and_numbers}
-use Rattle.zint.specs.RuleLaws.{zneeds}
 use Rattle.stage3.specs.declared.pair_search.PairSearch.{PairSearch}
 use native.Mathlib.Omega.{arith}
 use Rattle.stage3.proofs.search_stage3.Goals as goal
@@ -75,6 +74,3 @@ returns c =
 
 pub overflow_cast-lag : goal.overflow_cast-lag
 overflow_cast-lag c = record { sfits = omega (arith, lag_small c.requires) }
-
-pub target_energy-energy_target-requires : goal.target_energy-energy_target-requires
-target_energy-energy_target-requires c = search zneeds

@@ -65,12 +65,12 @@ pub returns-else-cc_max_new-top : goal.returns-else-cc_max_new-top
 returns-else-cc_max_new-top c =
     let f = c.ranges in
     let a = c.args in
-    let q = c.in_ok-q.q in
-    let s : to_z w32 (of_z w32 q) ≡ q = search zneeds in
+    let p = c.in_ok-q.q in
+    let s : to_z w32 (of_z w32 p) ≡ p = search zneeds in
     let t : to_z w32 (of_z w32 a.best.top) ≡ a.best.top = search zneeds in
-    let n = marked f.cross_corr f.energy f.contour_bias_q15 q _ a.j c.mark_down-cc_max_new.type_inv s c.mark_down-cc_max_new.ensures in
+    let n = marked f.cross_corr f.energy f.contour_bias_q15 p _ a.j c.mark_down-cc_max_new.type_inv s c.mark_down-cc_max_new.ensures in
     let d = divided f.cross_corr f.energy f.contour_bias_q15 c.silk_div32_varq.ensures.value in
-    sym (lower a.best _ _ _ _ _ _ q (positive f.cross_corr f.energy f.contour_bias_q15 c.if-cross_corr-gt0.true) (sym d ∙ c.in_ok-q.was) (via_lt _ _ _ _ false c.if-cc_max_new-top.false t n))
+    sym (lower a.best _ _ _ _ _ _ p (positive f.cross_corr f.energy f.contour_bias_q15 c.if-cross_corr-gt0.true) (sym d ∙ c.in_ok-q.was) (via_lt _ _ _ _ false c.if-cc_max_new-top.false t n))
 
 pub returns-else-cross_corr-gt0 : goal.returns-else-cross_corr-gt0
 returns-else-cross_corr-gt0 c = let f = c.ranges in sym (passed _ _ _ _ _ _ _ (positive f.cross_corr f.energy f.contour_bias_q15 c.if-cross_corr-gt0.false))

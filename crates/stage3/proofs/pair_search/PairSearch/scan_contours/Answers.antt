@@ -1,7 +1,7 @@
 -- `stage3::PairSearch::scan_contours` meets its contract. The invariant: what is known after the pairs of the earlier lags and of the contours below j.
 use Rattle.std.specs.Prelude.{None}
 use mathlib.Core.Path.{◌≡◌, sym, ap, ◌∙◌, subst, subst₂}
-use Prim.Native.Nat.{ℕ, ◌+◌, ◌-◌, ◌*◌, ◌<◌}
+use Prim.Native.Nat.{ℕ, ◌+◌, ◌-◌, ◌*◌, ◌<◌, ◌≤◌}
 use lib.IntN.{ℤ, pos}
 use lib.Signed.{◌≤ℤ◌}
 use mir.Syntax.{w32}
@@ -9,11 +9,12 @@ use mir.Val.{to_z, of_z}
 use Rattle.zint.specs.ReadLaws.{r_var, r_got, r_as, r_holds}
 use Rattle.silk_tables.specs.Tables.{in_use}
 use Rattle.silk_tables.proofs.TableLaws.{in_use_bounds}
-use Rattle.stage3.specs.Pick.{first_tried, reached}
+use Rattle.stage3.specs.Pick.{first_tried, last_tried, reached}
 use Rattle.stage3.specs.Stage3.{sat_sum}
 use Rattle.stage3.specs.PickLaws.{bias_low, bias_high, few_lags, last_le, row_end}
 use Rattle.stage3.specs.Search.{with_pair, at3, summed, array_choice, BestOfFirst, AfterFirst}
 use Rattle.stage3.specs.SearchLaws.{searched_turn, stopped_more}
+use Rattle.stage3.specs.declared.pair_search.PairSearch.{PairSearch}
 use native.Mathlib.Omega.{arith}
 use Rattle.stage3.proofs.pair_search.PairSearch.scan_contours.Goals as goal
 use Rattle.stage3.proofs.pair_search.PairSearch.scan_contours.Goals.{After-consider}
@@ -51,17 +52,17 @@ loop-j-init c =
     let n : (a.d - first_tried a.self.fs a.self.lag) * in_use a.self.codebook.nb a.self.codebook.complexity ≡ (a.d - first_tried a.self.fs a.self.lag) * in_use a.self.codebook.nb a.self.codebook.complexity + 0 = omega arith in
     subst₂ (λ (z : ℤ) (m : ℕ). BestOfFirst (array_choice a.cross_corr_st3.now a.energies_st3.now z a.self) m a.best) (sym (r_var c.ranges.energy_target).val) n c.requires.best_of_first
 
+-- a place of the arrays
+module _ (by : PairSearch) where
+  in_arrays : (d j : ℕ) {s n : ℕ} → d ≤ last_tried by.fs by.lag → s ≡ first_tried by.fs by.lag → n ≡ in_use by.codebook.nb by.codebook.complexity → j < n
+      → (by.codebook.nb ≤ 4) × ((j < 34) × (d - s < 5))
+  in_arrays d j l e u h = omega (arith, by.codebook.settings.at_most, in_use_bounds by.codebook.settings, few_lags by.fs by.lag d by.lag_low l)
+
 pub sum_subframes-cross_corr-requires : goal.sum_subframes-cross_corr-requires
-sum_subframes-cross_corr-requires c =
-    let r = c.requires in
-    let a = c.args in
-    omega (arith, a.self.codebook.settings, in_use_bounds a.self.codebook.settings, few_lags a.self.fs a.self.lag a.d a.self.lag_low r.lag_bound.1, c.start_lag.ensures, c.nb_cbk_search-nb_cbk_search.ensures)
+sum_subframes-cross_corr-requires c = in_arrays c.args.self _ _ c.requires.lag_bound.1 c.start_lag.ensures c.nb_cbk_search-nb_cbk_search.ensures c.loop-j-test.true
 
 pub sum_subframes-energy-requires : goal.sum_subframes-energy-requires
-sum_subframes-energy-requires c =
-    let r = c.requires in
-    let a = c.args in
-    omega (arith, a.self.codebook.settings, in_use_bounds a.self.codebook.settings, few_lags a.self.fs a.self.lag a.d a.self.lag_low r.lag_bound.1, c.start_lag.ensures, c.nb_cbk_search-nb_cbk_search.ensures)
+sum_subframes-energy-requires c = in_arrays c.args.self _ _ c.requires.lag_bound.1 c.start_lag.ensures c.nb_cbk_search-nb_cbk_search.ensures c.loop-j-test.true
 
 pub consider-requires : goal.consider-requires
 consider-requires c =
