@@ -1,8 +1,8 @@
--- `stage2_correlations::is_marked` meets its contract.
+-- `stage2_correlations::KeptLags::is_marked` meets its contract.
 use mathlib.Core.Path.{sym, ◌∙◌}
 use Rattle.stage2_correlations.specs.Marks.{marked}
 use Rattle.stage2_correlations.specs.MarkLaws.{too_low, too_high, inside}
-use Rattle.stage2_correlations.proofs.is_marked.Goals as goal
+use Rattle.stage2_correlations.proofs.kept_lags.KeptLags.is_marked.Goals as goal
 
 pub returns-then-d-low : goal.returns-then-d-low
 unfolding marked
