@@ -21,29 +21,18 @@ impl KeptLags<'_> {
         requires { (d ≤ 145) × ((below ≤ 2) × (above ≤ 3)) }
         ensures { result ≡ near self.entry.lags.now below above d }
     {
-        for lag in self.lags {
-            let v = 2 * *lag;
-            if v <= d + below {
-                if d <= v + above {
-                    return true;
-                }
-            }
-        }
-        false
+        self.lags
+            .iter()
+            .any(|lag| 2 * *lag <= d + below && d <= 2 * *lag + above)
     }
 
     // The same, within the ends low and high.
+    #[tactic(auto, unfolding(crate::specs::Marks::marked))]
     fn is_marked(self, d: usize, below: usize, above: usize, low: usize, high: usize) -> bool
         requires { (d ≤ 145) × ((below ≤ 2) × (above ≤ 3)) }
         ensures { result ≡ marked self.entry.lags.now below above low high d }
     {
-        if d < low {
-            return false;
-        }
-        if d > high {
-            return false;
-        }
-        self.is_near(d, below, above)
+        low <= d && d <= high && self.is_near(d, below, above)
     }
 
     // Whether stage 2 can choose the lag d: it lies within 1 of the double of a kept lag, and within 16 to 143.
@@ -64,7 +53,7 @@ impl KeptLags<'_> {
         self.is_marked(d, 2, 3, MIN_LAG_8KHZ - 2, MAX_LAG_8KHZ + 1)
     }
 
-    // Which of the lags 14 to 145 are measured.
+    // Which of the lags 14 to 145 are measured. By the lags as numbers, since each is asked for by its number.
     pub fn measured_lags(self) -> [bool; 132]
         ensures { result ≡ tabulate (λ (i : ℕ). measured self.entry.lags.now (14 + i)) 132 }
     {
