@@ -67,7 +67,7 @@ fn first_normalizer(frame_4khz: &[i16], h: usize) -> i32
     wrapping_add_i32(normalizer, silk_smulbb(SF_LENGTH_8KHZ as i32, 4000))
 }
 
-// The normalisers of half-frame h.
+// The normalisers of half-frame h. By the lag as a number, from which both samples' places follow.
 fn normalizers(frame_4khz: &[i16], h: usize) -> [i32; 65]
     requires { (h < 2) × (120 + 40 * h ≤ length frame_4khz.now) }
     ensures { result ≡ tabulate (λ (i : ℕ). divisor1 frame_4khz.now h (8 + i)) 65 }
@@ -85,7 +85,7 @@ fn normalizers(frame_4khz: &[i16], h: usize) -> [i32; 65]
     normalizers
 }
 
-// The quotients' low 16 bits, by lag; none where a divisor is zero.
+// The quotients' low 16 bits, by lag; none where a divisor is zero. By the lag's place: it is a place of three arrays, one of which runs backwards.
 fn quotients(xcorr32: &[i32; 65], normalizers: &[i32; 65]) -> Option<[i16; 65]>
     ensures { result ≡ quotients xcorr32.now normalizers.now }
 {
@@ -116,7 +116,7 @@ fn biased(sum: i32, lag: usize) -> i16
     as_i16(silk_smlawb(sum, sum, 0 - (16 * lag) as i32))
 }
 
-// The scores from the correlations of two half-frames.
+// The scores from the correlations of two half-frames. By the lag's place, since the lag itself counts in its score.
 fn combine(first: &[i16; 65], second: &[i16; 65]) -> [i16; 65]
     ensures { result ≡ tabulate (λ (i : ℕ). biased1 (sample first.now i +ℤ sample second.now i) (8 + i)) 65 }
 {
@@ -157,13 +157,10 @@ fn run_above(c_combined: &[i16], threshold: i32) -> usize
     ensures value { result ≡ count_above c_combined.now (length c_combined.now) threshold }
     ensures within { result ≤ length c_combined.now }
 {
-    for (i, score) in c_combined.iter().enumerate() {
-        let score = *score as i32;
-        if score <= threshold {
-            return i;
-        }
-    }
-    c_combined.len()
+    c_combined
+        .iter()
+        .position(|score| *score as i32 <= threshold)
+        .unwrap_or(c_combined.len())
 }
 
 // The indices as lags.
