@@ -1,7 +1,7 @@
 -- Laws of stage 1's choice of the lags that go on.
 use Rattle.std.specs.Prelude.{◌≡◌, refl, Bool, true, false, ℕ, zero, suc, ◌+◌, ◌≤◌, ◌<◌, ℤ, pos, length, take, replicate, ◌≤ℤ◌, ◌<ℤ◌}
 use Rattle.std.proofs.Math.Path.{sym, ap, ap₂}
-use Rattle.std.proofs.Common.{◌∙◌, subst, arith, take_all}
+use Rattle.std.proofs.Common.{◌∙◌, subst, arith, take_all, get_or-take, length-take-le}
 use Rattle.std.proofs.Math.Bool.{cond}
 use mathlib.Core.List.{List}
 use Rattle.std.proofs.Math.Decide.{dec_lt}
@@ -77,23 +77,47 @@ module _ (c : List ℤ) (d : List ℕ) (k : ℕ) (thres1 : ℤ) where
   unfolding selected
   selected_high r l e er el = ap₂ goes er (el ∙ ap lags_to er) ∙ sym (ap either e)
 
--- ---- the answer, from the arrays that the sort leaves
-
--- at least one place is searched, and at most eight
-pub search_length_some : (cx : ℕ) → 0 < search_length cx
-unfolding search_length
-search_length_some cx = omega arith
-
-pub search_length_few : {cx : ℕ} → cx < 3 → search_length cx ≤ 8
-unfolding search_length
-search_length_few small = omega arith
-
 -- tests that agree have the same first number
 first_ext : (i k : ℕ) (t u : ℕ → Bool) → ((q : ℕ) → i ≤ q → q < i + k → t q ≡ u q) → first_from i k t ≡ first_from i k u
 unfolding first_from
 first_ext i zero t u h = refl
 first_ext i (suc k) t u h =
     ap₂ (λ (b : Bool) (p : Place). cond b (at i) p) (h i (omega arith) (omega arith)) (first_ext (suc i) k t u (λ q l m. h q (omega arith) (omega arith)))
+
+-- ---- the places that are searched, as lists of their own
+
+pub front_lags : (d : List ℕ) (k n : ℕ) → n ≤ k → filled (λ i. 8 + get_or (take k d) i 0) n (replicate 8 0) ≡ filled (λ i. 8 + get_or d i 0) n (replicate 8 0)
+front_lags d k n l = filled_ext n (replicate 8 0) (λ i m. ap (λ (x : ℕ). 8 + x) (get_or-take k d i 0 (omega arith)))
+
+module _ (c : List ℤ) (d : List ℕ) (k : ℕ) (h : k ≤ length c) where
+  front_sample : (i : ℕ) → i < k → sample (take k c) i ≡ sample c i
+  unfolding sample
+  front_sample i l = get_or-take k c i (pos 0) l
+
+  front_count : (threshold : ℤ) → count_above (take k c) k threshold ≡ count_above c k threshold
+  unfolding count_above
+  front_count threshold = ap (place_or k) (first_ext 0 k _ _ (λ q l m. ap (λ (z : ℤ). le_z z threshold) (front_sample q (omega arith))))
+
+  pub selected_front : (thres1 : ℤ) → 0 < k → selected (take k c) (take k d) (length (take k c)) thres1 ≡ selected c d k thres1
+  unfolding selected
+  selected_front thres1 p =
+      let best = front_sample 0 p in
+      let threshold : smulwb thres1 (sample (take k c) 0) ≡ smulwb thres1 (sample c 0) = ap (smulwb thres1) best in
+      let count = ap (count_above (take k c) k) threshold ∙ front_count (smulwb thres1 (sample c 0)) in
+      ap (λ (n : ℕ). selected (take k c) (take k d) n thres1) (length-take-le k c h)
+      ∙ (λ t. cond (lt_z (best t) (pos 3277)) (stopped Unvoiced)
+      (record {
+        screen = Goes;
+        lags = (ap (λ (n : ℕ). filled (λ i. 8 + get_or (take k d) i 0) n (replicate 8 0)) count ∙ front_lags d k (count_above c k (smulwb thres1 (sample c 0))) (count_above_le c k (smulwb thres1 (sample c 0)))) t;
+        count = count t;
+      }))
+
+-- ---- the answer, from the arrays that the sort leaves
+
+-- at most eight places are searched
+pub search_length_few : {cx : ℕ} → cx < 3 → search_length cx ≤ 8
+unfolding search_length
+search_length_few small = omega arith
 
 pub length_scores : (f : List ℤ) (nb : ℕ) → length (scores1 f nb) ≡ 65
 unfolding scores1

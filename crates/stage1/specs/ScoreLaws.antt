@@ -1,7 +1,7 @@
 -- Laws of stage 1's correlations and scores.
-use Rattle.std.specs.Prelude.{Option, Some, None, ◌≡◌, refl, Bool, true, ◌⊎◌, ℕ, suc, ◌+◌, ◌-◌, ◌*◌, ◌/◌, ◌≤◌, ◌<◌, ℤ, pos, negsuc, nat_abs, ◌-ℤ◌, ◌*ℤ◌, length, drop, replicate}
+use Rattle.std.specs.Prelude.{Option, Some, None, ◌≡◌, refl, Bool, true, ◌⊎◌, ℕ, suc, ◌+◌, ◌-◌, ◌*◌, ◌/◌, ◌≤◌, ◌<◌, ℤ, pos, ◌-ℤ◌, ◌*ℤ◌, length, drop, replicate}
 use Rattle.std.proofs.Math.Path.{sym, ap, ap₂}
-use Rattle.std.proofs.Common.{◌∙◌, ⊎_elim, lit<, lit≤, drop-drop, SFits}
+use Rattle.std.proofs.Common.{◌∙◌, ⊎_elim, lit<, lit≤, drop-drop}
 use Rattle.std.proofs.Math.Bool.{false, cond}
 use mathlib.Core.List.{List}
 use native.Mathlib.Omega.{arith}
@@ -12,8 +12,7 @@ use Rattle.std.proofs.Math.ListN.{get_or}
 use Rattle.std.specs.Int.{w16, w32}
 use Rattle.zint.specs.Wrap.{wrap, mod_z}
 use Rattle.zint.specs.WrapLaws.{wraps, wrap_add_l}
-use Rattle.zint.specs.DiffLaws.{up, dn, v, n, ◌⊕◌, ◌⊖◌, ◌⊗◌, ring, sfits_by}
-use Rattle.zint.specs.BoundLaws.{abs_ud, abs_prod, fits_abs}
+use Rattle.zint.specs.DiffLaws.{v, n, ◌⊕◌, ◌⊖◌, ◌⊗◌, ring}
 use Rattle.lists.specs.Signal.{sample}
 use Rattle.lists.specs.Fill.{tabulate, filled}
 use Rattle.lists.specs.FillLaws.{filled_all, tabulate_ext, get_d_tabulate}
@@ -52,9 +51,12 @@ divisor_first f h = simp (wraps, floor)
 slid : (t d p q : ℤ) → t +ℤ d +ℤ pos 160000 +ℤ (p -ℤ q) ≡ t +ℤ (d -ℤ q +ℤ p) +ℤ pos 160000
 slid t d p q = ring (v t ⊕ v d ⊕ n 160000 ⊕ (v p ⊖ v q)) (v t ⊕ (v d ⊖ v q ⊕ v p) ⊕ n 160000) (omega arith)
 
+come_gone : (z p q : ℤ) → z -ℤ q +ℤ p ≡ z +ℤ (p -ℤ q)
+come_gone z p q = ring (v z ⊖ v q ⊕ v p) (v z ⊕ (v p ⊖ v q)) (omega arith)
+
 -- the divisor of the next lag: a sample comes and one goes
 pub divisor_next : (f : List ℤ) (h i : ℕ) → 1 ≤ i → i < 65
-    → wrap w32 (divisor1 f h (8 + (i - 1)) +ℤ (sample f (72 + 40 * h - i) *ℤ sample f (72 + 40 * h - i) -ℤ sample f (72 + 40 * h - i + 40) *ℤ sample f (72 + 40 * h - i + 40))) ≡ divisor1 f h (8 + i)
+    → wrap w32 (divisor1 f h (8 + (i - 1)) -ℤ sample f (72 + 40 * h - i + 40) *ℤ sample f (72 + 40 * h - i + 40) +ℤ sample f (72 + 40 * h - i) *ℤ sample f (72 + 40 * h - i)) ≡ divisor1 f h (8 + i)
 unfolding divisor1 divisor_sum1 target_energy1 basis_energy1 target1
 divisor_next f h i l u =
     let b = 72 + 40 * h - i in
@@ -64,28 +66,12 @@ divisor_next f h i l u =
     let q = sample f (b + 40) *ℤ sample f (b + 40) in
     let T = dot (drop (80 + 40 * h) f) (drop (80 + 40 * h) f) 40 in
     let D = dot (drop (suc b) f) (drop (suc b) f) 40 in
-    ap (λ (m : ℕ). wrap w32 (wrap w32 (T +ℤ dot (drop m f) (drop m f) 40 +ℤ pos 160000) +ℤ (p -ℤ q))) es
+    ap (wrap w32) (come_gone (divisor1 f h (8 + (i - 1))) p q)
+    ∙ ap (λ (m : ℕ). wrap w32 (wrap w32 (T +ℤ dot (drop m f) (drop m f) 40 +ℤ pos 160000) +ℤ (p -ℤ q))) es
     ∙ wrap_add_l w32 (T +ℤ D +ℤ pos 160000) (p -ℤ q)
     ∙ ap (wrap w32) (slid T D p q)
     ∙ ap (λ (x : ℤ). wrap w32 (T +ℤ x +ℤ pos 160000)) (sym (dot_slide f b 40))
     ∙ ap (λ (m : ℕ). wrap w32 (T +ℤ dot (drop m f) (drop m f) 40 +ℤ pos 160000)) (sym eb)
-
--- ---- sizes
-
--- a square is not negative
-square_dn : (x : ℤ) → dn (x *ℤ x) ≡ 0
-square_dn (pos a) = refl
-square_dn (negsuc a) = refl
-
-square_nat : (x : ℤ) → (nat_abs (x *ℤ x) ≡ up (x *ℤ x)) × (dn (x *ℤ x) ≡ 0)
-square_nat x = (omega (arith, abs_ud (x *ℤ x), square_dn x), square_dn x)
-
--- the difference of two squares of 16-bit numbers
-pub squares_differ : {x y : ℤ} → SFits w16 x → SFits w16 y → SFits w32 (x *ℤ x -ℤ y *ℤ y)
-squares_differ {x} {y} f g =
-    let px = square_nat x in
-    let py = square_nat y in
-    sfits_by w32 (v (x *ℤ x) ⊖ v (y *ℤ y)) (omega (arith, px, py, abs_prod x x (fits_abs f) (fits_abs f))) (omega (arith, px, py, abs_prod y y (fits_abs g) (fits_abs g)))
 
 -- ---- quotients
 

@@ -3,7 +3,7 @@
 
 ghost use Rattle.std.specs.Prelude.{◌≡◌, ◌≤◌, take};
 
-// The lags at 4 kHz that were kept, best first: the first `count` of `lags`. The other places are 0.
+// The lags at 4 kHz that were kept, best first: the first `count` of `lags`. The other places are 0. An array and a count, since nothing allocates.
 #[derive(Clone, Copy)]
 pub struct Candidates {
     pub lags: [usize; 8],

@@ -3,10 +3,8 @@
 // source's, and so are the names of constants and variables.
 #![tactic(auto)]
 
-ghost use Rattle.std.specs.Prelude.{◌≡◌, [], ◌⊎◌, ℕ, ◌+◌, ◌-◌, ◌*◌, ◌<◌, ◌≤◌, ◌+ℤ◌, ◌-ℤ◌, ◌*ℤ◌, length, get_or, replicate};
-ghost use Rattle.std.specs.Int.{w32};
+ghost use Rattle.std.specs.Prelude.{◌≡◌, [], ◌⊎◌, ℕ, ◌+◌, ◌-◌, ◌*◌, ◌<◌, ◌≤◌, ◌+ℤ◌, length, get_or, replicate};
 ghost use Rattle.answers.specs.Answer.{answer_numbers};
-ghost use Rattle.zint.specs.Wrap.{wrap};
 ghost use Rattle.lists.specs.Signal.{sample};
 ghost use Rattle.lists.specs.Fill.{tabulate, filled};
 ghost use Rattle.stage1.specs.Stage1.{cross1, divisor1, biased1, search_length, answer_of, stage1, screen_numbers, screen_number, Handed1};
@@ -18,7 +16,7 @@ use answers::NoPitch;
 pub use candidates::Candidates;
 use pitch_settings::Settings;
 use silk_macros::{silk_div32_varq, silk_smlawb, silk_smulbb, silk_smulwb};
-use silk_sigproc::{energy_of_40, silk_pitch_xcorr, square};
+use silk_sigproc::{energy_of_40, silk_pitch_xcorr, slide};
 use silk_sort::silk_insertion_sort_decreasing_int16;
 use zint::{as_i16, wrapping_add_i32};
 
@@ -69,14 +67,7 @@ fn first_normalizer(frame_4khz: &[i16], h: usize) -> i32
     wrapping_add_i32(normalizer, silk_smulbb(SF_LENGTH_8KHZ as i32, 4000))
 }
 
-// The normaliser one lag on: a sample comes and one goes.
-fn slide(normalizer: i32, come: i16, gone: i16) -> i32
-    ensures { result ≡ wrap w32 (normalizer +ℤ (come *ℤ come -ℤ gone *ℤ gone)) }
-{
-    wrapping_add_i32(normalizer, square(come) - square(gone))
-}
-
-// The normalisers of half-frame h.
+// The normalisers of half-frame h. By the lag as a number, from which both samples' places follow.
 fn normalizers(frame_4khz: &[i16], h: usize) -> [i32; 65]
     requires { (h < 2) × (120 + 40 * h ≤ length frame_4khz.now) }
     ensures { result ≡ tabulate (λ (i : ℕ). divisor1 frame_4khz.now h (8 + i)) 65 }
@@ -88,13 +79,13 @@ fn normalizers(frame_4khz: &[i16], h: usize) -> [i32; 65]
     for i in 1..CSTRIDE_4KHZ {
         let come = frame_4khz[basis - i];
         let gone = frame_4khz[basis - i + SF_LENGTH_8KHZ];
-        normalizer = slide(normalizer, come, gone);
+        normalizer = slide(normalizer, gone, come);
         normalizers[i] = normalizer;
     }
     normalizers
 }
 
-// The quotients' low 16 bits, by lag; none where a divisor is zero.
+// The quotients' low 16 bits, by lag; none where a divisor is zero. By the lag's place: it is a place of three arrays, one of which runs backwards.
 fn quotients(xcorr32: &[i32; 65], normalizers: &[i32; 65]) -> Option<[i16; 65]>
     ensures { result ≡ quotients xcorr32.now normalizers.now }
 {
@@ -125,7 +116,7 @@ fn biased(sum: i32, lag: usize) -> i16
     as_i16(silk_smlawb(sum, sum, 0 - (16 * lag) as i32))
 }
 
-// The scores from the correlations of two half-frames.
+// The scores from the correlations of two half-frames. By the lag's place, since the lag itself counts in its score.
 fn combine(first: &[i16; 65], second: &[i16; 65]) -> [i16; 65]
     ensures { result ≡ tabulate (λ (i : ℕ). biased1 (sample first.now i +ℤ sample second.now i) (8 + i)) 65 }
 {
@@ -150,57 +141,56 @@ fn scores(frame_4khz: &[i16], nb_subfr: usize) -> Option<[i16; 65]>
     Some(combine(&first, &second))
 }
 
-// How many places of the ranking are searched.
+// How many places of the ranking are searched: at least one and at most eight.
+#[tactic(auto, unfolding(crate::specs::Stage1::search_length))]
 fn search_length(complexity: usize) -> usize
     requires { complexity < 3 }
-    ensures { result ≡ search_length complexity }
+    ensures value { result ≡ search_length complexity }
+    ensures some { 0 < result }
+    ensures few { result ≤ 8 }
 {
     (complexity << 1) + 4
 }
 
-// How many of the first n scores lie, from the front on, above the threshold.
-fn run_above(c_combined: &[i16], n: usize, threshold: i32) -> usize
-    requires { n ≤ length c_combined.now }
-    ensures { result ≡ count_above c_combined.now n threshold }
+// How many of the scores lie, from the front on, above the threshold.
+fn run_above(c_combined: &[i16], threshold: i32) -> usize
+    ensures value { result ≡ count_above c_combined.now (length c_combined.now) threshold }
+    ensures within { result ≤ length c_combined.now }
 {
-    for i in 0..n {
-        let score = c_combined[i] as i32;
-        if score <= threshold {
-            return i;
-        }
-    }
-    n
+    c_combined
+        .iter()
+        .position(|score| *score as i32 <= threshold)
+        .unwrap_or(c_combined.len())
 }
 
-// The first `count` indices as lags.
-fn lags_of(d_srch: &[usize], count: usize) -> [usize; 8]
-    requires { (count ≤ 8) × ((count ≤ length d_srch.now) × ((i : ℕ) → i < count → get_or d_srch.now i 0 < 65)) }
-    ensures { result ≡ filled (λ (i : ℕ). 8 + get_or d_srch.now i 0) count (replicate 8 0) }
+// The indices as lags.
+fn lags_of(d_srch: &[usize]) -> [usize; 8]
+    requires { (length d_srch.now ≤ 8) × ((i : ℕ) → i < length d_srch.now → get_or d_srch.now i 0 < 65) }
+    ensures { result ≡ filled (λ (i : ℕ). 8 + get_or d_srch.now i 0) (length d_srch.now) (replicate 8 0) }
 {
     let mut lags = [0usize; 8];
-    for i in 0..count {
-        lags[i] = MIN_LAG_4KHZ + d_srch[i];
+    for (i, d) in d_srch.iter().enumerate() {
+        lags[i] = MIN_LAG_4KHZ + *d;
     }
     lags
 }
 
-// The answer from the sorted scores and their indices, of which the first n are searched.
+// The answer from the scores that are searched, best first, and their indices.
 fn select(
     c_combined: &[i16],
     d_srch: &[usize],
-    n: usize,
     search_thres1_q16: i32,
 ) -> Result<Candidates, NoPitch>
-    requires { (0 < n) × ((n ≤ 8) × ((n ≤ length c_combined.now) × ((n ≤ length d_srch.now) × ((i : ℕ) → i < n → get_or d_srch.now i 0 < 65)))) }
-    ensures { answer_of result ≡ selected c_combined.now d_srch.now n search_thres1_q16 }
+    requires { (0 < length c_combined.now) × ((length c_combined.now ≤ 8) × ((length d_srch.now ≡ length c_combined.now) × ((i : ℕ) → i < length d_srch.now → get_or d_srch.now i 0 < 65))) }
+    ensures { answer_of result ≡ selected c_combined.now d_srch.now (length c_combined.now) search_thres1_q16 }
 {
     let best = c_combined[0] as i32;
     if best < 3277 {
         return Err(NoPitch::Unvoiced);
     }
     let threshold = silk_smulwb(search_thres1_q16, best);
-    let count = run_above(c_combined, n, threshold);
-    let lags = lags_of(d_srch, count);
+    let count = run_above(c_combined, threshold);
+    let lags = lags_of(&d_srch[..count]);
     Ok(Candidates { lags, count })
 }
 
@@ -214,5 +204,9 @@ pub fn search_stage1(frame_4khz: &[i16], s: Settings) -> Result<Candidates, NoPi
     let mut d_srch = [0usize; 8];
     let length_d_srch = search_length(s.complexity);
     silk_insertion_sort_decreasing_int16(&mut c_combined, &mut d_srch, CSTRIDE_4KHZ, length_d_srch);
-    select(&c_combined, &d_srch, length_d_srch, s.thres1)
+    select(
+        &c_combined[..length_d_srch],
+        &d_srch[..length_d_srch],
+        s.thres1,
+    )
 }

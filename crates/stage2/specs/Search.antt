@@ -1,10 +1,10 @@
 -- What the functions of stage 2 say to one another: the search from the front, as the code goes. Nothing here is part of what stage 2 means. Definitions only; the laws are in
 -- `SearchLaws`.
-use Rattle.std.specs.Prelude.{Option, Some, None, ◌≡◌, ◌&&◌, cond, List, [], ◌⊎◌, ℕ, ◌-◌, ◌<◌, ◌≤◌, ℤ, pos, nat_abs, ◌*ℤ◌, get_or}
+use Rattle.std.specs.Prelude.{Option, Some, None, ◌≡◌, ◌&&◌, cond, List, [], ℕ, ◌-◌, ◌<◌, ◌≤◌, ℤ, pos, nat_abs, ◌*ℤ◌, get_or}
 use Rattle.std.specs.Int.Signed.{lt_z, quot_z}
 use Rattle.zint.specs.Minus.{minus}
-use Rattle.silk_tables.specs.Tables.{entries2, contours2}
-use Rattle.stage2_correlations.specs.Marks.{Kept, listed}
+use Rattle.silk_tables.specs.Tables.{contours2}
+use Rattle.stage2_correlations.specs.Marks.{listed}
 use Rattle.stage2.specs.Stage2.{Stage2, Unvoiced, Winner, picked}
 use Rattle.stage2.specs.declared.Along.{Along}
 use Rattle.stage2.specs.declared.BestLag.{BestLag}
@@ -20,27 +20,6 @@ at2 c k d = get_or (get_or c k []) (d - 14) (pos 0)
 -- correlations of 16 bits
 pub record SixteenBits (c : ℕ → ℕ → ℤ) (nb : ℕ) : Type 0 where
   pub each : (k d : ℕ) → k < nb → 14 ≤ d → d ≤ 145 → nat_abs (c k d) ≤ 32768
-
--- what the search is handed, and what one lag of it is
-pub record HandedSearch (c : List (List ℤ)) (kept : List ℕ) (nb : ℕ) : Type 0 where
-  pub small : SixteenBits (at2 c) nb
-  pub lags : Kept kept
-  pub subframes : (nb ≡ 2) ⊎ (nb ≡ 4)
-  pub at_least : 2 ≤ nb
-  pub at_most : nb ≤ 4
-
-pub record HandedLag (c : List (List ℤ)) (nb d : ℕ) : Type 0 where
-  pub small : SixteenBits (at2 c) nb
-  pub subframes : (nb ≡ 2) ⊎ (nb ≡ 4)
-  pub at_least : 2 ≤ nb
-  pub at_most : nb ≤ 4
-  pub low : 16 ≤ d
-  pub high : d ≤ 143
-
--- at least one contour is tried, and no more than the codebook has
-pub record ContoursTried (by : LagSearch) : Type 0 where
-  pub some_tried : 0 < by.contours
-  pub in_codebook : by.contours ≤ entries2 by.nb
 
 -- what the search goes by, from the settings and the previous lag and correlation; and the search itself, in an array of correlations
 abbrev pub lag_search : ℕ → ℕ → ℕ → ℤ → ℤ → ℤ → LagSearch

@@ -1,14 +1,15 @@
 -- Laws of the search from the front: a lag's contours, one lag more, what is known after n lags, and the array of the correlations.
-use Rattle.std.specs.Prelude.{Option, Some, None, ◌≡◌, Bool, List, [], ℕ, ◌+◌, ◌-◌, ◌<◌, ◌≤◌, ℤ, negsuc, nat_abs, ◌*ℤ◌, get_or, replicate, ◌≤ℤ◌, ◌<ℤ◌}
+use Rattle.std.specs.Prelude.{Option, Some, None, ◌≡◌, Bool, List, [], ◌⊎◌, eqb, ℕ, ◌+◌, ◌-◌, ◌<◌, ◌≤◌, ℤ, negsuc, nat_abs, ◌*ℤ◌, get_or, replicate, ◌≤ℤ◌, ◌<ℤ◌}
 use Rattle.std.proofs.Math.Path.{refl, sym, ap}
-use Rattle.std.proofs.Common.{ap₂, ◌∙◌, subst₂, arith}
-use Rattle.std.proofs.Math.Bool.{true, false, ◌&&◌, cond}
+use Rattle.std.proofs.Common.{ap₂, ◌∙◌, subst₂, arith, inl, inr, ⊎_elim, eqb-true}
+use Rattle.std.proofs.Math.Bool.{true, false, ◌&&◌, ◌||◌, cond}
 use Rattle.std.proofs.Math.IntN.{pos}
 use Rattle.std.specs.Int.Signed.{lt_z, quot_z}
 use Rattle.best.specs.Best.{Place, none, at, BestOf}
 use Rattle.best.specs.BestLaws.{some_true, some_false}
 use Rattle.best.proofs.BestOfLaws.{best_ext}
 use Rattle.best.proofs.BestOfLaws as laws
+use Rattle.pitch_settings.specs.Settings.{subframes_known}
 use Rattle.zint.specs.TestLaws.{lt_true, lt_false}
 use Rattle.lists.specs.Fill.{tabulate, filled}
 use Rattle.lists.specs.FillLaws.{get_d_tabulate, get_or-filled}
@@ -20,6 +21,20 @@ use Rattle.stage2.specs.declared.BestLag.{BestLag}
 use Rattle.stage2.specs.Scores.{contour_sum, best_contour, lag_sum, Search2, passes2, score2}
 use Rattle.stage2.specs.ScoreLaws.{contour_is, Agree, with_correlations, lag_small, score_above, best_contour_ext, lag_sum_ext, passes_ext, score_ext}
 use Rattle.stage2.specs.Search.{at2, SixteenBits, along, top_of, sum_of, considered, best_with, best_answer, BestOfAll}
+
+-- two or four subframes, by the test
+pub two_or_four : {nb : ℕ} → subframes_known nb ≡ true → (nb ≡ 2) ⊎ (nb ≡ 4)
+unfolding subframes_known
+two_or_four {nb} e = by (eqb nb 2) (eqb nb 4) refl refl e
+  where
+    by : (t u : Bool) → eqb nb 2 ≡ t → eqb nb 4 ≡ u → (t || u) ≡ true → (nb ≡ 2) ⊎ (nb ≡ 4)
+    by true u p q e = inl (eqb-true nb 2 p)
+    by false true p q e = inr (eqb-true nb 4 q)
+    by false false p q e = cc
+
+pub subframes_of : {nb : ℕ} → (nb ≡ 2) ⊎ (nb ≡ 4) → subframes_known nb ≡ true
+unfolding subframes_known
+subframes_of s = ⊎_elim (λ e. rw e refl) (λ e. rw e refl) s
 
 -- the first n contours: j is best, and top its sum
 module _ (c : ℕ → ℕ → ℤ) (nb d : ℕ) where

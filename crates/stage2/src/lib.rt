@@ -3,13 +3,13 @@
 // to 392. The macros and tables are the source's, and so are the names of constants and of most variables.
 #![tactic(auto)]
 
-ghost use Rattle.std.specs.Prelude.{◌≡◌, ◌≤◌, ◌<◌, pos, nat_abs, ◌≤ℤ◌};
+ghost use Rattle.std.specs.Prelude.{◌≡◌, true, ◌≤◌, ◌<◌, pos, nat_abs, ◌≤ℤ◌};
 ghost use Rattle.answers.specs.Answer.{answer_numbers};
+ghost use Rattle.pitch_settings.specs.Settings.{subframes_known};
 ghost use Rattle.silk_tables.specs.Tables.{entries2};
-ghost use Rattle.stage2_correlations.specs.Marks.{Kept};
 ghost use Rattle.stage2.specs.Scores.{contour_sum, prev_8khz, distance, prev_bias, biased2};
 ghost use Rattle.stage2.specs.Stage2.{answer_of, stage2, stage2_numbers, stage2_verdict, stage2_values, Handed2};
-ghost use Rattle.stage2.specs.Search.{at2, HandedLag, HandedSearch, ContoursTried, along, top_of, sum_of, considered, lag_search, search_in, best_with, best_answer, BestOfAll};
+ghost use Rattle.stage2.specs.Search.{at2, SixteenBits, along, top_of, sum_of, considered, lag_search, search_in, best_with, best_answer, BestOfAll};
 
 use answers::NoPitch;
 use pitch_settings::Settings;
@@ -17,7 +17,7 @@ use silk_macros::{
     silk_div32, silk_div32_16, silk_lin2log, silk_lshift, silk_mul, silk_rshift, silk_smulbb,
 };
 use silk_tables::{lag_cb_stage2, nb_cbk_search_stage2};
-use stage2_correlations::{is_listed, measured_lags, subframe_row};
+use stage2_correlations::{KeptLags, subframe_row};
 
 // The winner's lag at 8 kHz, its contour and its correlation at Q15.
 #[derive(Clone, Copy)]
@@ -60,39 +60,6 @@ pub struct LagSearch {
     pub prev: Previous,
 }
 
-// The correlations along contour j of the lag d, added up over the subframes.
-fn contour_sum(c_8khz: &[[i16; 132]; 4], nb_subfr: usize, d: usize, j: usize) -> i32
-    requires { HandedLag c_8khz.now nb_subfr d × (j < entries2 nb_subfr) }
-    ensures { result ≡ contour_sum (at2 c_8khz.now) nb_subfr d j }
-{
-    let mut cc: i32 = 0;
-    for i in 0..nb_subfr {
-        let d_subfr = (d as i32 + lag_cb_stage2(nb_subfr, i, j)) as usize;
-        cc += c_8khz[i][d_subfr - 14] as i32;
-    }
-    cc
-}
-
-// The first of the contours with the greatest sum.
-fn best_contour(c_8khz: &[[i16; 132]; 4], nb_subfr: usize, nb_cbk_search: usize, d: usize) -> Along
-    requires { HandedLag c_8khz.now nb_subfr d × ((0 < nb_cbk_search) × (nb_cbk_search ≤ entries2 nb_subfr)) }
-    ensures { result ≡ along (at2 c_8khz.now) nb_subfr nb_cbk_search d }
-{
-    let mut cc0_max_new = contour_sum(c_8khz, nb_subfr, d, 0);
-    let mut cb_i_max_new: usize = 0;
-    for i in 1..nb_cbk_search {
-        let cc = contour_sum(c_8khz, nb_subfr, d, i);
-        if cc > cc0_max_new {
-            cc0_max_new = cc;
-            cb_i_max_new = i;
-        }
-    }
-    Along {
-        cc: cc0_max_new,
-        contour: cb_i_max_new,
-    }
-}
-
 // The previous lag at 8 kHz.
 fn previous_8khz(fs_khz: usize, prev_lag: i32) -> i32
     ensures { result ≡ prev_8khz fs_khz prev_lag }
@@ -132,16 +99,16 @@ fn prev_lag_bias(nb_subfr: usize, prev_corr: i32, delta_lag_log2_sqr_q7: i32) ->
 }
 
 // A lag's sum, marked down for a long lag and for its distance from the previous one.
-fn biased_score(cc: i32, nb_subfr: usize, d: usize, prev_lag_8khz: i32, prev_corr: i32) -> i32
+fn biased_score(cc: i32, nb_subfr: usize, d: usize, prev: Previous) -> i32
     requires { (nat_abs cc ≤ 131072) × ((nb_subfr ≤ 4) × (d ≤ 143)) }
-    ensures { result ≡ biased2 cc nb_subfr d prev_lag_8khz prev_corr }
+    ensures { result ≡ biased2 cc nb_subfr d prev.lag prev.correlation }
 {
     let lag_log2_q7 = silk_lin2log(d as i32);
     let cc_max_new_b = cc - silk_rshift(silk_smulbb((nb_subfr * 410) as i32, lag_log2_q7), 7);
-    if prev_lag_8khz > 0 {
-        let prev_lag_log2_q7 = silk_lin2log(prev_lag_8khz);
+    if prev.lag > 0 {
+        let prev_lag_log2_q7 = silk_lin2log(prev.lag);
         let delta_lag_log2_sqr_q7 = distance_q7(lag_log2_q7, prev_lag_log2_q7);
-        cc_max_new_b - prev_lag_bias(nb_subfr, prev_corr, delta_lag_log2_sqr_q7)
+        cc_max_new_b - prev_lag_bias(nb_subfr, prev.correlation, delta_lag_log2_sqr_q7)
     } else {
         cc_max_new_b
     }
@@ -161,59 +128,98 @@ fn top_of(best: Option<BestLag>) -> i32
 fn consider(
     best: Option<BestLag>,
     d: usize,
-    cc: i32,
-    contour: usize,
+    found: Along,
     score: i32,
     thres: i32,
 ) -> Option<BestLag>
-    ensures { result ≡ considered best d cc contour score thres }
+    ensures { result ≡ considered best d found.cc found.contour score thres }
 {
     let top = top_of(best);
-    if cc > thres {
+    if found.cc > thres {
         if score > top {
             return Some(BestLag {
                 top: score,
-                cc: cc,
+                cc: found.cc,
                 lag: d,
-                contour: contour,
+                contour: found.contour,
             });
         }
     }
     best
 }
 
-// The lag d, where it is listed.
-fn try_lag(
-    best: Option<BestLag>,
-    c_8khz: &[[i16; 132]; 4],
-    kept: &[usize],
-    by: LagSearch,
-    d: usize,
-) -> Option<BestLag>
-    requires handed_lag { HandedLag c_8khz.now by.nb d × ContoursTried by }
-    requires kept { Kept kept.now }
-    ensures { result ≡ best_with (search_in c_8khz.now kept.now by) d best }
-{
-    if is_listed(kept, d) {
-        let found = best_contour(c_8khz, by.nb, by.contours, d);
-        let cc = found.cc;
-        let score = biased_score(cc, by.nb, d, by.prev.lag, by.prev.correlation);
-        consider(best, d, cc, found.contour, score, by.thres)
-    } else {
-        best
-    }
+// The search: the correlations of each subframe at the lags 14 to 145, the lags that stage 1 kept, and what the search goes by besides. At least one contour is tried, and no
+// more than the codebook has.
+#[derive(Clone, Copy)]
+pub struct Search8khz<'c, 'k> {
+    pub c_8khz: &'c [[i16; 132]; 4],
+    pub kept: KeptLags<'k>,
+    pub by: LagSearch,
+    pub ghost small: { SixteenBits (at2 c_8khz.now) by.nb },
+    pub ghost subframes: { subframes_known by.nb ≡ true },
+    pub ghost at_most: { by.nb ≤ 4 },
+    pub ghost some_tried: { 0 < by.contours },
+    pub ghost in_codebook: { by.contours ≤ entries2 by.nb },
 }
 
-// The lags 16 to 143, rising.
-fn pick_lag(c_8khz: &[[i16; 132]; 4], kept: &[usize], by: LagSearch) -> Option<BestLag>
-    requires { HandedSearch c_8khz.now kept.now by.nb × ContoursTried by }
-    ensures { BestOfAll (search_in c_8khz.now kept.now by) result }
-{
-    let mut best = None;
-    for d in 16..144 {
-        best = try_lag(best, c_8khz, kept, by, d);
+impl Search8khz<'_, '_> {
+    // The correlations along contour j of the lag d, added up over the subframes.
+    fn contour_sum(&self, d: usize, j: usize) -> i32
+        requires { (16 ≤ d) × ((d ≤ 143) × (j < entries2 self.now.by.nb)) }
+        ensures { result ≡ contour_sum (at2 self.now.c_8khz.now) self.now.by.nb d j }
+    {
+        let mut cc: i32 = 0;
+        for i in 0..self.by.nb {
+            let d_subfr = (d as i32 + lag_cb_stage2(self.by.nb, i, j)) as usize;
+            cc += self.c_8khz[i][d_subfr - 14] as i32;
+        }
+        cc
     }
-    best
+
+    // The first of the contours with the greatest sum.
+    fn best_contour(&self, d: usize) -> Along
+        requires { (16 ≤ d) × (d ≤ 143) }
+        ensures { result ≡ along (at2 self.now.c_8khz.now) self.now.by.nb self.now.by.contours d }
+    {
+        let mut cc0_max_new = self.contour_sum(d, 0);
+        let mut cb_i_max_new: usize = 0;
+        for i in 1..self.by.contours {
+            let cc = self.contour_sum(d, i);
+            if cc > cc0_max_new {
+                cc0_max_new = cc;
+                cb_i_max_new = i;
+            }
+        }
+        Along {
+            cc: cc0_max_new,
+            contour: cb_i_max_new,
+        }
+    }
+
+    // The best lag so far, with the lag d, where it is listed.
+    fn try_lag(&self, best: Option<BestLag>, d: usize) -> Option<BestLag>
+        requires { (16 ≤ d) × (d ≤ 143) }
+        ensures { result ≡ best_with (search_in self.now.c_8khz.now self.now.kept.lags.now self.now.by) d best }
+    {
+        if self.kept.is_listed(d) {
+            let found = self.best_contour(d);
+            let score = biased_score(found.cc, self.by.nb, d, self.by.prev);
+            consider(best, d, found, score, self.by.thres)
+        } else {
+            best
+        }
+    }
+
+    // The best of the lags 16 to 143, tried rising.
+    fn pick_lag(&self) -> Option<BestLag>
+        ensures { BestOfAll (search_in self.now.c_8khz.now self.now.kept.lags.now self.now.by) result }
+    {
+        let mut best = None;
+        for d in 16..144 {
+            best = self.try_lag(best, d);
+        }
+        best
+    }
 }
 
 // The answer of the search.
@@ -256,13 +262,20 @@ pub fn search_stage2(
     ensures value { answer_of result ≡ stage2 frame_8khz.now kept.now s.rate s.nb s.complexity s.thres2 prev.lag prev.correlation }
     ensures numbers { stage2_numbers (answer_of result) ≡ answer_numbers (stage2_verdict frame_8khz.now kept.now s.rate s.nb s.complexity s.thres2 prev.lag prev.correlation) (stage2_values frame_8khz.now kept.now s.rate s.nb s.complexity s.thres2 prev.lag prev.correlation) }
 {
-    let marks = measured_lags(kept);
+    let kept = KeptLags { lags: kept };
+    let marks = kept.measured_lags();
     let mut c_8khz = [[0i16; 132]; 4];
     let nb_subfr = s.nb;
     for k in 0..nb_subfr {
-        let row = subframe_row(frame_8khz, k, &marks).ok_or(NoPitch::ZeroDivisor)?;
+        let Ok(row) = subframe_row(frame_8khz, k, &marks) else {
+            return Err(NoPitch::ZeroDivisor);
+        };
         c_8khz[k] = row;
     }
-    let by = lag_search(s, prev);
-    answer(pick_lag(&c_8khz, kept, by), nb_subfr)
+    let search = Search8khz {
+        c_8khz: &c_8khz,
+        kept,
+        by: lag_search(s, prev),
+    };
+    answer(search.pick_lag(), nb_subfr)
 }

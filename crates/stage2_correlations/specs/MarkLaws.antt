@@ -1,7 +1,7 @@
 -- Laws of the marked lags: the tests by their bounds.
 use Rattle.std.specs.Prelude.{◌≡◌, Bool, true, false, List, ℕ, ◌+◌, ◌*◌, ◌≤◌, ◌<◌, length}
-use Rattle.std.proofs.Math.Path.{ap, ap₂}
-use Rattle.std.proofs.Common.{◌∙◌, le-leb}
+use Rattle.std.proofs.Math.Path.{refl, ap, ap₂}
+use Rattle.std.proofs.Common.{◌∙◌, le-leb, leb-true}
 use Rattle.std.proofs.Math.Bool.{◌&&◌, and-false}
 use Rattle.std.proofs.lemmas.Bool.{lt-leb}
 use Rattle.std.proofs.Math.Dec.{leb}
@@ -16,13 +16,14 @@ module _ (kept : List ℕ) (below above d i : ℕ) where
   unfolding mark_near
   mark_yes h k = ap₂ ◌&&◌ (le-leb _ _ h) (le-leb _ _ k)
 
-  pub mark_later : d + below < 2 * get_or kept i 0 → mark_near kept below above d i ≡ false
+  pub mark_no : ((2 * get_or kept i 0 ≤ d + below) × (d ≤ 2 * get_or kept i 0 + above) → ⊥) → mark_near kept below above d i ≡ false
   unfolding mark_near
-  mark_later h = ap (λ (t : Bool). t && leb d (2 * get_or kept i 0 + above)) (lt-leb _ _ h)
-
-  pub mark_earlier : 2 * get_or kept i 0 + above < d → mark_near kept below above d i ≡ false
-  unfolding mark_near
-  mark_earlier h = ap (λ (t : Bool). leb (2 * get_or kept i 0) (d + below) && t) (lt-leb _ _ h) ∙ and-false (leb (2 * get_or kept i 0) (d + below))
+  mark_no h = by (leb (2 * get_or kept i 0) (d + below)) (leb d (2 * get_or kept i 0 + above)) refl refl
+    where
+      by : (t u : Bool) → leb (2 * get_or kept i 0) (d + below) ≡ t → leb d (2 * get_or kept i 0 + above) ≡ u → (t && u) ≡ false
+      by true true p q = absurd (h (leb-true _ _ p, leb-true _ _ q))
+      by true false p q = refl
+      by false u p q = refl
 
 -- ---- some kept lag, and none
 
@@ -34,12 +35,9 @@ pub near_no : (kept : List ℕ) (below above d : ℕ) → ((i : ℕ) → i < len
 unfolding near
 near_no kept below above d h = some_false (length kept) (mark_near kept below above d) h
 
--- ---- the ends: a lag below the first, one above the last, and one between
+-- ---- the ends: a lag above the last, and one between
 
 module _ (first last d : ℕ) (t : Bool) where
-  pub too_low : d < first → (leb first d && (leb d last && t)) ≡ false
-  too_low h = ap (λ (u : Bool). u && (leb d last && t)) (lt-leb _ _ h)
-
   pub too_high : last < d → (leb first d && (leb d last && t)) ≡ false
   too_high h = ap (λ (u : Bool). leb first d && (u && t)) (lt-leb _ _ h) ∙ and-false (leb first d)
 

@@ -1,8 +1,8 @@
 -- Laws of a subframe's row: a ratio way by way, the divisor from running energies, one lag more, and the row at the marks of the kept lags.
-use Rattle.std.specs.Prelude.{Option, Some, None, ◌≡◌, refl, Bool, true, false, ◌&&◌, ◌||◌, cond, List, ℕ, ◌+◌, ◌-◌, ◌<◌, ◌≤◌, ℤ, pos, nat_abs, ◌+ℤ◌, ◌-ℤ◌, ◌*ℤ◌, get_or, drop}
+use Rattle.std.specs.Prelude.{Option, Some, None, unwrap_or, is_none, ◌≡◌, refl, Bool, true, false, ◌&&◌, ◌||◌, cond, List, ℕ, ◌+◌, ◌-◌, ◌<◌, ◌≤◌, ℤ, pos, nat_abs, ◌+ℤ◌, ◌-ℤ◌, ◌*ℤ◌, get_or, drop}
 use Rattle.std.proofs.Math.Path.{sym}
 use Rattle.std.proofs.Common.{ap, ap₂, ◌∙◌, add-one, arith, lit<}
-use Rattle.std.proofs.Math.Bool.{or-false}
+use Rattle.std.proofs.Math.Bool.{or-false, or-true}
 use Rattle.std.proofs.Math.IntN.{+ℤ_assoc}
 use Rattle.std.specs.Int.Signed.{lt_z}
 use Rattle.std.specs.Int.{w16, w32}
@@ -13,7 +13,7 @@ use Rattle.lists.specs.Signal.{sample}
 use Rattle.lists.specs.Fill.{tabulate}
 use Rattle.lists.specs.FillLaws.{get_d_tabulate, tabulate_ext}
 use Rattle.best.specs.Best.{some}
-use Rattle.best.specs.BestLaws.{some_true, some_false, some_ext}
+use Rattle.best.specs.BestLaws.{some_ext}
 use Rattle.best.specs.PairLaws.{some_pairs}
 use Rattle.silk_macros.specs.Divide.{quotient, low16_of, by_zero}
 use Rattle.silk_sigproc.specs.Dot.{dot, energy_sum}
@@ -21,7 +21,7 @@ use Rattle.silk_sigproc.specs.DotLaws.{dot_slide}
 use Rattle.stage2_correlations.specs.Marks.{near, marked, measured}
 use Rattle.stage2_correlations.specs.MarkLaws.{too_high}
 use Rattle.stage2_correlations.specs.Correlations.{target2, cross_sum2, target_energy2, basis_energy2, divisor_sum2, cross2, divisor2, quotient2, correlation2, zero_reached2, divisors2, subframe_no, lag_no2, zero2}
-use Rattle.stage2_correlations.specs.Rows.{reached_ratio, ratio_of, at_lag, value_at, zero_at, subframe_row}
+use Rattle.stage2_correlations.specs.Rows.{reached_ratio, ratio_of, at_lag, value_at, zero_at, row_by, subframe_row}
 
 -- ---- the quotient's two answers
 
@@ -69,43 +69,42 @@ at_lag_is e m k i n h =
     by true false q = refl
     by false u q = refl
 
--- the answer of a lag: its value, or that its divisor is zero
-pub lag_some : (t : Bool) (y : ℤ) {z : ℤ} → cond t None (Some y) ≡ Some z → (t ≡ false) × (z ≡ y)
-lag_some true y e = cc
-lag_some false y e = (refl, cc)
+-- a lag's number is 0 where its divisor is zero, and none is there exactly then
+pub lag_value : (e : List ℤ) (m : List Bool) (k i : ℕ) → unwrap_or (cond (zero_at e m k i) None (Some (value_at e m k i))) (pos 0) ≡ value_at e m k i
+lag_value e m k i = by (get_or m i false) (lt_z (pos 0) (cross2 e k (14 + i))) (quotient2 e k (14 + i))
+  where
+    by : (t u : Bool) (q : Option ℤ) → unwrap_or (cond (t && (u && by_zero q)) None (Some (cond t (cond u (low16_of q) (pos 0)) (pos 0)))) (pos 0) ≡ cond t (cond u (low16_of q) (pos 0)) (pos 0)
+    by true true (Some q) = refl
+    by true true None = refl
+    by true false q = refl
+    by false u q = refl
 
-pub lag_none : (t : Bool) (y : ℤ) → cond t None (Some y) ≡ None → t ≡ true
-lag_none true y e = refl
-lag_none false y e = cc
-
--- the row where no divisor is zero, and where one is
-module _ (e : List ℤ) (m : List Bool) (k : ℕ) where
-  abbrev row_by : Bool → Option (List ℤ)
-  row_by t = cond t None (Some (tabulate (value_at e m k) 132))
-
-  pub row_some : ((i : ℕ) → i < 132 → zero_at e m k i ≡ false) → Some (tabulate (value_at e m k) 132) ≡ subframe_row e m k
-  unfolding subframe_row
-  row_some h = sym (ap row_by (some_false 132 (zero_at e m k) h))
-
-  pub row_none : (i : ℕ) → i < 132 → zero_at e m k i ≡ true → None ≡ subframe_row e m k
-  unfolding subframe_row
-  row_none i l h = sym (ap row_by (some_true 132 (zero_at e m k) i l h))
+pub lag_zero : (t : Bool) (y : ℤ) → is_none (cond t None (Some y)) ≡ t
+lag_zero true y = refl
+lag_zero false y = refl
 
 pub some_next : (n : ℕ) (t : ℕ → Bool) → some (n + 1) t ≡ (some n t || t n)
 unfolding some
 some_next n t = ap (λ (m : ℕ). some m t) (add-one n)
 
+-- one place more: the test holds there, or not
+pub some_more : (n : ℕ) (t : ℕ → Bool) {z : Bool} → t n ≡ true → z ≡ true → z ≡ some (n + 1) t
+some_more n t e f = f ∙ sym (some_next n t ∙ ap (λ (b : Bool). some n t || b) e ∙ or-true (some n t))
+
+pub some_same : (n : ℕ) (t : ℕ → Bool) {z : Bool} → t n ≡ false → z ≡ some n t → z ≡ some (n + 1) t
+some_same n t e f = f ∙ sym (some_next n t ∙ ap (λ (b : Bool). some n t || b) e ∙ or-false (some n t))
+
 -- ---- the row at the marks of the kept lags
 
 pub subframe_row_kept : (e : List ℤ) (kept : List ℕ) (k : ℕ)
-    → subframe_row e (tabulate (λ i. measured kept (14 + i)) 132) k ≡ cond (some 132 (λ i. zero_reached2 e kept k (14 + i))) None (Some (tabulate (λ i. correlation2 e kept k (14 + i)) 132))
+    → subframe_row e (tabulate (λ i. measured kept (14 + i)) 132) k ≡ row_by (some 132 (λ i. zero_reached2 e kept k (14 + i))) (tabulate (λ i. correlation2 e kept k (14 + i)) 132)
 unfolding subframe_row correlation2 zero_reached2
 subframe_row_kept e kept k =
     let marks = tabulate (λ i. measured kept (14 + i)) 132 in
     let m : (i : ℕ) → i < 132 → get_or marks i false ≡ measured kept (14 + i) = λ i h. get_d_tabulate _ 132 i false h in
     let v : ℕ → ℤ = λ i. cond (lt_z (pos 0) (cross2 e k (14 + i))) (low16_of (quotient2 e k (14 + i))) (pos 0) in
     let z : ℕ → Bool = λ i. lt_z (pos 0) (cross2 e k (14 + i)) && by_zero (quotient2 e k (14 + i)) in
-    ap₂ (λ (t : Bool) (l : List ℤ). cond t None (Some l))
+    ap₂ row_by
     (some_ext 132 (zero_at e marks k) (λ i. measured kept (14 + i) && z i) (λ i h. ap (λ (b : Bool). b && z i) (m i h)))
     (tabulate_ext {f = value_at e marks k} {g = λ i. cond (measured kept (14 + i)) (v i) (pos 0)} 132 (λ i h. ap (λ (b : Bool). cond b (v i) (pos 0)) (m i h)))
 

@@ -1,6 +1,7 @@
--- What the functions of a subframe answer, over any marks: a ratio, a lag's correlation, and the row of the lags 14 to 145, none where a divisor that is reached is zero.
+-- What the functions of a subframe answer, over any marks: a ratio and a lag's correlation, none where a divisor that is reached is zero,
+-- and the row of the lags 14 to 145, an error's where some is.
 -- Nothing here is part of what stage 2 means.
-use Rattle.std.specs.Prelude.{Option, Some, None, option_map, Bool, false, ◌&&◌, cond, List, ℕ, ◌+◌, ◌-◌, ℤ, pos, drop, get_or}
+use Rattle.std.specs.Prelude.{Option, Some, option_map, Result, Ok, Err, Bool, false, ◌&&◌, cond, List, ℕ, ◌+◌, ◌-◌, ℤ, pos, drop, get_or}
 use Rattle.std.specs.Int.Signed.{lt_z}
 use Rattle.std.specs.Int.{w16, w32}
 use Rattle.zint.specs.Wrap.{wrap}
@@ -27,5 +28,9 @@ value_at e m k i = cond (get_or m i false) (cond (lt_z (pos 0) (cross2 e k (14 +
 abbrev pub zero_at : List ℤ → List Bool → ℕ → ℕ → Bool
 zero_at e m k i = get_or m i false && (lt_z (pos 0) (cross2 e k (14 + i)) && by_zero (quotient2 e k (14 + i)))
 
-unfoldable pub subframe_row : List ℤ → List Bool → ℕ → Option (List ℤ)
-subframe_row e m k = cond (some 132 (zero_at e m k)) None (Some (tabulate (value_at e m k) 132))
+-- numbers, as an error's where the test holds
+abbrev pub row_by : Bool → List ℤ → Result (List ℤ) (List ℤ)
+row_by t c = cond t (Err c) (Ok c)
+
+unfoldable pub subframe_row : List ℤ → List Bool → ℕ → Result (List ℤ) (List ℤ)
+subframe_row e m k = row_by (some 132 (zero_at e m k)) (tabulate (value_at e m k) 132)

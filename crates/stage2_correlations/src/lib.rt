@@ -3,82 +3,23 @@
 // subframes in one array. The macros and kernels are the source's, and so are the names of constants and variables.
 #![tactic(auto)]
 
-ghost use Rattle.std.specs.Prelude.{◌≡◌, ℕ, ◌+◌, ◌≤◌, ◌<◌, ◌+ℤ◌, ◌-ℤ◌, ◌*ℤ◌, length};
-ghost use Rattle.std.specs.Int.{w32};
-ghost use Rattle.zint.specs.Wrap.{wrap};
-ghost use Rattle.lists.specs.Fill.{tabulate};
-ghost use Rattle.stage2_correlations.specs.Marks.{near, marked, listed, measured, Kept};
+ghost use Rattle.std.specs.Prelude.{◌≡◌, ◌+◌, ◌≤◌, ◌<◌, length};
 ghost use Rattle.stage2_correlations.specs.Correlations.{target2};
 ghost use Rattle.stage2_correlations.specs.Rows.{ratio_of, at_lag, subframe_row};
 
+mod kept_lags;
+
+pub use kept_lags::KeptLags;
 use silk_macros::silk_div32_varq;
-use silk_sigproc::{energy_of_40, silk_inner_prod_aligned, square};
-use silk_tables::{MAX_LAG_8KHZ, PE_MIN_LAG_MS};
-use zint::{as_i16, wrapping_add_i32, wrapping_sub_i32};
+use silk_sigproc::{energy_of_40, silk_inner_prod_aligned, slide};
+use silk_tables::PE_MIN_LAG_MS;
+use zint::{as_i16, wrapping_add_i32};
 
 // The least lag at 8 kHz that stage 2 can choose; `MAX_LAG_8KHZ` of silk_tables is the greatest.
 pub const MIN_LAG_8KHZ: usize = PE_MIN_LAG_MS * 8;
 
 // The samples of a subframe at 8 kHz.
 pub const SF_LENGTH_8KHZ: usize = 40;
-
-// Whether d lies from v - below to v + above for the double v of a kept lag.
-fn is_near(kept: &[usize], d: usize, below: usize, above: usize) -> bool
-    requires { Kept kept.now × ((d ≤ 145) × ((below ≤ 2) × (above ≤ 3))) }
-    ensures { result ≡ near kept.now below above d }
-{
-    for i in 0..kept.len() {
-        let v = 2 * kept[i];
-        if v <= d + below {
-            if d <= v + above {
-                return true;
-            }
-        }
-    }
-    false
-}
-
-// The same, within the ends low and high.
-fn is_marked(kept: &[usize], d: usize, below: usize, above: usize, low: usize, high: usize) -> bool
-    requires { Kept kept.now × ((d ≤ 145) × ((below ≤ 2) × (above ≤ 3))) }
-    ensures { result ≡ marked kept.now below above low high d }
-{
-    if d < low {
-        return false;
-    }
-    if d > high {
-        return false;
-    }
-    is_near(kept, d, below, above)
-}
-
-// Whether stage 2 can choose the lag d: it lies within 1 of the double of a kept lag, and within 16 to 143.
-pub fn is_listed(kept: &[usize], d: usize) -> bool
-    requires { Kept kept.now × (d ≤ 145) }
-    ensures { result ≡ listed kept.now d }
-{
-    is_marked(kept, d, 1, 1, MIN_LAG_8KHZ, MAX_LAG_8KHZ)
-}
-
-// Whether the lag d is measured: it lies from 2 below to 3 above the double of a kept lag, and within 14 to 144.
-fn is_measured(kept: &[usize], d: usize) -> bool
-    requires { Kept kept.now × (d ≤ 145) }
-    ensures { result ≡ measured kept.now d }
-{
-    is_marked(kept, d, 2, 3, MIN_LAG_8KHZ - 2, MAX_LAG_8KHZ + 1)
-}
-
-// Which of the lags 14 to 145 are measured.
-pub fn measured_lags(kept: &[usize]) -> [bool; 132]
-    requires { Kept kept.now }
-    ensures { result ≡ tabulate (λ (i : ℕ). measured kept.now (14 + i)) 132 }
-{
-    let mut marks = [false; 132];
-    for i in 0..132 {
-        marks[i] = is_measured(kept, 14 + i);
-    }
-    marks
-}
 
 // The quotient where the cross-correlation is positive, at Q14 and cut to 16 bits, else 0; none by zero.
 fn divide(cross_corr: i32, norm: i32) -> Option<i16>
@@ -108,16 +49,13 @@ fn correlate(marked: bool, frame_8khz: &[i16], target: usize, d: usize, norm: i3
     }
 }
 
-// The running energy with one sample gone and one more come.
-fn slide(energy: i32, gone: i16, come: i16) -> i32
-    ensures { result ≡ wrap w32 (energy -ℤ gone *ℤ gone +ℤ come *ℤ come) }
-{
-    wrapping_add_i32(wrapping_sub_i32(energy, square(gone)), square(come))
-}
-
-// The correlations of subframe k at the marked lags among 14 to 145 (132 places, the source's CSTRIDE_8KHZ; lag 145 can be read and is never measured), and 0 at the others;
-// none where a divisor that is reached is zero.
-pub fn subframe_row(frame_8khz: &[i16], k: usize, marks: &[bool; 132]) -> Option<[i16; 132]>
+// The correlations of subframe k at the marked lags among 14 to 145 (132 places, the source's CSTRIDE_8KHZ; lag 145 can be read and is never measured), and 0 at the others.
+// Where a divisor that is reached is zero they are an error's, with 0 at each lag whose divisor it is.
+pub fn subframe_row(
+    frame_8khz: &[i16],
+    k: usize,
+    marks: &[bool; 132],
+) -> Result<[i16; 132], [i16; 132]>
     requires { (k < 4) × (target2 k + 40 ≤ length frame_8khz.now) }
     ensures { result ≡ subframe_row frame_8khz.now marks.now k }
 {
@@ -125,10 +63,14 @@ pub fn subframe_row(frame_8khz: &[i16], k: usize, marks: &[bool; 132]) -> Option
     let energy_target = wrapping_add_i32(energy_of_40(frame_8khz, target), 1);
     let mut energy_basis = energy_of_40(frame_8khz, target - 14);
     let mut c_8khz = [0i16; 132];
+    let mut zero = false;
     for i in 0..132 {
         let norm = wrapping_add_i32(energy_target, energy_basis);
-        let value = correlate(marks[i], frame_8khz, target, 14 + i, norm)?;
-        c_8khz[i] = value;
+        let at = correlate(marks[i], frame_8khz, target, 14 + i, norm);
+        c_8khz[i] = at.unwrap_or(0);
+        if at.is_none() {
+            zero = true;
+        }
         let basis = target - 15 - i;
         energy_basis = slide(
             energy_basis,
@@ -136,5 +78,5 @@ pub fn subframe_row(frame_8khz: &[i16], k: usize, marks: &[bool; 132]) -> Option
             frame_8khz[basis],
         );
     }
-    Some(c_8khz)
+    if zero { Err(c_8khz) } else { Ok(c_8khz) }
 }

@@ -2,27 +2,26 @@
 use mathlib.Core.Path.{◌≡◌, refl, ap, ◌∙◌}
 use Prim.Native.Nat.{ℕ, ◌+◌}
 use native.Mathlib.Omega.{arith}
-use lib.ListN.{get_or, replicate}
+use lib.ListN.{length, get_or, replicate}
 use Rattle.lists.specs.Fill.{filled}
 use Rattle.lists.specs.FillLaws.{filled_none, filled_turn}
-use Rattle.zint.specs.RuleLaws.{zneeds}
 use Rattle.stage1.proofs.lags_of.Goals as goal
 
 pub loop-i-init : goal.loop-i-init
-loop-i-init c = (search zneeds, filled_none _ _)
+loop-i-init c = filled_none _ _
 
 pub overflow_add-lags : goal.overflow_add-lags
 overflow_add-lags c =
-    let l = c.requires.1.1 c.loop-i.i (omega arith) in
+    let l = c.requires.1 c.loop-i.i (omega arith) in
     omega arith
 
 pub loop-i-preserved : goal.loop-i-preserved
 loop-i-preserved c =
     let a = c.args in
-    (omega arith, filled_turn (λ (k : ℕ). 8 + get_or a.d_srch.now k 0) c.loop-i.i (replicate 8 0) c.loop-i.invariant.1 refl (omega arith))
+    filled_turn (λ (k : ℕ). 8 + get_or a.d_srch.now k 0) c.loop-i.i (replicate 8 0) c.loop-i.invariant refl (omega arith)
 
 pub returns : goal.returns
 returns c =
     let a = c.args in
-    let e : c.loop-i.i ≡ a.count = omega arith in
-    c.loop-i.invariant.1 ∙ ap (λ (m : ℕ). filled (λ (k : ℕ). 8 + get_or a.d_srch.now k 0) m (replicate 8 0)) e
+    let e : c.loop-i.i ≡ length a.d_srch.now = omega arith in
+    c.loop-i.invariant ∙ ap (λ (m : ℕ). filled (λ (k : ℕ). 8 + get_or a.d_srch.now k 0) m (replicate 8 0)) e

@@ -1,9 +1,9 @@
 -- The invariants of `lags_of`.
 use mathlib.Core.Path.{◌≡◌}
-use Prim.Native.Nat.{ℕ, ◌+◌, ◌≤◌}
+use Prim.Native.Nat.{ℕ, ◌+◌}
 use lib.ListN.{get_or, replicate}
 use Rattle.lists.specs.Fill.{filled}
 use Rattle.stage1.proofs.lags_of.Given as goal
 
 abbrev pub invariant-loop-i : goal.invariant-loop-i
-invariant-loop-i l = (l.i ≤ l.count) × (l.lags ≡ filled (λ (k : ℕ). 8 + get_or l.d_srch k 0) l.i (replicate 8 0))
+invariant-loop-i l = l.lags ≡ filled (λ (k : ℕ). 8 + get_or l.d_srch k 0) l.i (replicate 8 0)

@@ -33,7 +33,7 @@ loop-i-preserved c =
     let e = c.loop-i.invariant.1.1.1.0 in
     let x = (r_elem w16 _ c.come-1.given).val ∙ ap (λ (m : ℕ). sample w (m - i)) b in
     let y = (r_elem w16 _ c.gone-1.given).val ∙ ap (λ (m : ℕ). sample w (m - i + 40)) b in
-    let v = (r_got w32 c.slide-normalizer.type_inv (c.slide-normalizer.ensures ∙ (λ t. wrap w32 (e t +ℤ (x t *ℤ x t -ℤ y t *ℤ y t))) ∙ divisor_next w a.h i (omega arith) (omega arith))).val in
+    let v = (r_got w32 c.slide-normalizer.type_inv (c.slide-normalizer.ensures ∙ (λ t. wrap w32 (e t -ℤ y t *ℤ y t +ℤ x t *ℤ x t)) ∙ divisor_next w a.h i (omega arith) (omega arith))).val in
     let q : i ≡ i + 1 - 1 = omega arith in (
       omega arith,
       (omega arith, (b, (v ∙ ap (λ (m : ℕ). divisor1 w a.h (8 + m)) q, filled_turn (λ (k : ℕ). divisor1 w a.h (8 + k)) i (replicate 65 (pos 0)) c.loop-i.invariant.1.1.1.1 v (omega arith)))),

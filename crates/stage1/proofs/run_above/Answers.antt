@@ -1,40 +1,25 @@
--- `stage1::run_above` meets its contract. The invariant: every score below i is above the threshold.
-use mathlib.Core.Path.{◌≡◌, refl, subst}
-use Prim.Native.Nat.{ℕ}
-use native.Mathlib.Omega.{arith}
-use borrow.Author.Count.{below_more}
-use lib.IntN.{ℤ, pos}
-use lib.ListN.{get_or}
-use lib.Signed.{◌<ℤ◌}
-use mir.Syntax.{w16, w32}
-use mir.Val.{to_z, of_z}
-use Rattle.zint.specs.OrderLaws.{le_read, not_le_read}
-use Rattle.zint.specs.ReadLaws.{r_var}
+-- `stage1::run_above` meets its contract: the first score that is not above the threshold.
+use Rattle.std.proofs.Common.{◌≡◌, ◌∙◌, arith, rules, length, ◌≤◌, ◌<◌, ℕ, ℤ, pos, List, Option, Some, None}
+use lib.Signed.{◌<ℤ◌, ◌≤ℤ◌}
+use borrow.Author.Tests.{tests}
+use Rattle.std.proofs.lemmas.Iterator.{YieldsList-from_slice, IsFirst-from_position}
+use Rattle.std.specs.Option.{MatchOption, unwrap_or}
+use Rattle.std.specs.List.{AllWithin, HoldsAt}
 use Rattle.lists.specs.Signal.{sample}
 use Rattle.stage1.specs.KeptLaws.{count_above_is}
-use Rattle.zint.specs.RuleLaws.{zneeds}
+use Rattle.stage1.specs.Steps.{count_above}
 use Rattle.stage1.proofs.run_above.Goals as goal
 
-pub loop-i-init : goal.loop-i-init
-loop-i-init c = (search zneeds, λ k h. absurd (omega arith))
-
-pub returns-then-score-threshold : goal.returns-then-score-threshold
+-- the place from where the first is, or that there is none
+counted : (c : List ℤ) (t : ℤ) (r : Option ℕ) → MatchOption r (AllWithin (λ x. t <ℤ x) c 0 (length c)) (λ i. (i < length c) × HoldsAt (λ x. x ≤ℤ t) c i × AllWithin (λ x. t <ℤ x) c 0 i)
+    → (unwrap_or r (length c) ≡ count_above c (length c) t) × (unwrap_or r (length c) ≤ length c)
 unfolding sample
-returns-then-score-threshold c =
-    let a = c.args in
-    let x : to_z w32 (of_z w32 (to_z w16 (of_z w16 (get_or a.c_combined.now c.loop-i.i (pos 0))))) ≡ get_or a.c_combined.now c.loop-i.i (pos 0) = search zneeds in
-    let t = (r_var c.ranges.threshold).val in
-    count_above_is a.c_combined.now a.n a.threshold c.loop-i.i (omega arith) (λ q h. subst (λ (z : ℤ). z <ℤ sample a.c_combined.now q) t (c.loop-i.invariant.1 q h)) (λ h. le_read x t c.if-score-threshold.true)
-
-pub loop-i-preserved : goal.loop-i-preserved
-unfolding sample
-loop-i-preserved c =
-    let a = c.args in
-    let x : to_z w32 (of_z w32 (to_z w16 (of_z w16 (get_or a.c_combined.now c.loop-i.i (pos 0))))) ≡ get_or a.c_combined.now c.loop-i.i (pos 0) = search zneeds in
-    (omega arith, below_more (λ (q : ℕ). to_z w32 (of_z w32 a.threshold) <ℤ sample a.c_combined.now q) c.loop-i.i c.loop-i.invariant.1 (not_le_read x refl c.if-score-threshold.false))
+counted c t None h = (count_above_is c (length c) t (length c) (omega arith) (λ q l. h q (pos 0) (omega arith) l) (λ l. absurd (omega arith)), omega arith)
+counted c t (Some i) (l, h, k) = (count_above_is c (length c) t i (omega arith) (λ q m. k q (pos 0) (omega arith) m) (λ m. h (pos 0)), omega arith)
 
 pub returns : goal.returns
 returns c =
     let a = c.args in
-    let t = (r_var c.ranges.threshold).val in
-    count_above_is a.c_combined.now a.n a.threshold a.n (omega arith) (λ q h. subst (λ (z : ℤ). z <ℤ sample a.c_combined.now q) t (c.loop-i.invariant.1 q (omega arith))) (λ h. absurd (omega arith))
+    let e = counted a.c_combined.now a.threshold c.position.result
+    (IsFirst-from_position _ _ _ (λ x. x ≤ℤ a.threshold) (λ x. a.threshold <ℤ x) c.position.ensures.ran (YieldsList-from_slice a.c_combined.now cc) (λ x q k. search (rules, tests)) (λ x q k. search (rules, tests))) in
+    record { value = c.unwrap_or.ensures ∙ e.0; within = omega (arith, e.1) }

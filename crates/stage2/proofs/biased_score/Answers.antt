@@ -1,8 +1,8 @@
 -- `stage2::biased_score` meets its contract.
 use mathlib.Core.Path.{◌∙◌}
-use Prim.Native.Nat.{◌*◌}
+use Prim.Native.Nat.{ℕ, ◌*◌, ◌≤◌}
 use native.Mathlib.Omega.{arith}
-use lib.IntN.{ℤ, pos, ◌-ℤ◌}
+use lib.IntN.{ℤ, pos, nat_abs, ◌-ℤ◌}
 use lib.Signed.{shr_z}
 use mir.Syntax.{w32}
 use mir.Val.{SFits, to_z, of_z}
@@ -14,80 +14,102 @@ use Rattle.stage2.specs.Scores.{lag_bias, distance, prev_bias}
 use Rattle.stage2.specs.ScoreLaws.{log_small, distance_low, distance_high, less_lag_bias, less_prev_bias, biased_yes, biased_no}
 use Rattle.zint.specs.RuleLaws.{zneeds}
 use Rattle.stage2.proofs.biased_score.Goals as goal
+use borrow.Author.Rules.{rules}
 
 -- the numbers on the way, and that they fit
-module _ (s : goal.Start) where
+module _ (cc : ℤ) (nb d : ℕ) (prev corr : ℤ) where
   abbrev log : ℤ
-  log = lin2log (pos s.args.d)
+  log = lin2log (pos d)
 
   abbrev less : ℤ
-  less = s.args.cc -ℤ lag_bias s.args.nb_subfr log
+  less = cc -ℤ lag_bias nb log
 
   abbrev far : ℤ
-  far = distance log (lin2log s.args.prev_lag_8khz)
+  far = distance log (lin2log prev)
 
   abbrev near : ℤ
-  near = prev_bias s.args.nb_subfr s.args.prev_corr far
+  near = prev_bias nb corr far
 
-  less_fits : SFits w32 less
-  less_fits = abs_fits less tt (less_lag_bias s.args.cc s.args.nb_subfr s.args.d s.args.prev_lag_8khz s.args.prev_corr s.requires.0)
+  less_fits : nat_abs cc ≤ 131072 → SFits w32 less
+  less_fits h = abs_fits less tt (less_lag_bias cc nb d prev corr h)
 
-  all-fits : SFits w32 (less -ℤ near)
-  all-fits = abs_fits (less -ℤ near) tt (less_prev_bias s.args.cc s.args.nb_subfr s.args.d s.args.prev_lag_8khz s.args.prev_corr s.requires.0)
-
-log-read : (c : goal.After-silk_lin2log-lag_log2_q7) → Reads w32 (of_z w32 c.silk_lin2log-lag_log2_q7.result) (log c.before)
-log-read c = r_call1 w32 lin2log c.silk_lin2log-lag_log2_q7.type_inv (r_nat w32 c.args.d (omega arith)) c.silk_lin2log-lag_log2_q7.ensures
-
-module _ (c : goal.After-silk_rshift) where
-  abbrev start : goal.Start
-  start = c.before.before.before
-
-  long-read : Reads w32 (of_z w32 c.silk_rshift.result) (lag_bias start.args.nb_subfr (log start))
-  unfolding lag_bias
-  long-read =
-      let m = c.silk_smulbb in
-      r_call1 w32 (λ (x : ℤ). shr_z x 128) c.silk_rshift.type_inv (r_call2 w32 smulbb m.type_inv (r_nat w32 (start.args.nb_subfr * 410) (omega arith)) (log-read c.before.before) m.ensures) c.silk_rshift.ensures
-
-  less-read : Reads w32 (of_z w32 (to_z w32 (of_z w32 start.args.cc) -ℤ to_z w32 (of_z w32 c.silk_rshift.result))) (less start)
-  less-read = r_sub (r_var start.ranges.cc) long-read (less_fits start)
+  all_fits : nat_abs cc ≤ 131072 → SFits w32 (less -ℤ near)
+  all_fits h = abs_fits (less -ℤ near) tt (less_prev_bias cc nb d prev corr h)
 
 pub overflow_sub-cc_max_new_b : goal.overflow_sub-cc_max_new_b
-overflow_sub-cc_max_new_b c = f_sub (r_var (start c).ranges.cc) (long-read c) (less_fits (start c))
-
-prev-log-read : (c : goal.After-silk_lin2log-prev_lag_log2_q7) → Reads w32 (of_z w32 c.silk_lin2log-prev_lag_log2_q7.result) (lin2log (start c.before.before).args.prev_lag_8khz)
-prev-log-read c = r_call1 w32 lin2log c.silk_lin2log-prev_lag_log2_q7.type_inv (r_var (start c.before.before).ranges.prev_lag_8khz) c.silk_lin2log-prev_lag_log2_q7.ensures
+unfolding lag_bias
+overflow_sub-cc_max_new_b c =
+    let a = c.args in
+    let l = c.silk_lin2log-lag_log2_q7 in
+    let m = c.silk_smulbb in
+    let x = r_call1 w32 lin2log l.type_inv (r_nat w32 a.d (omega arith)) l.ensures in
+    let long = r_call1 w32 (λ (z : ℤ). shr_z z 128) c.silk_rshift.type_inv (r_call2 w32 smulbb m.type_inv (r_nat w32 (a.nb_subfr * 410) (omega arith)) x m.ensures) c.silk_rshift.ensures in
+    f_sub (r_var c.ranges.cc) long (less_fits a.cc a.nb_subfr a.d a.prev.lag a.prev.correlation c.requires.0)
 
 pub distance_q7-delta_lag_log2_sqr_q7-requires : goal.distance_q7-delta_lag_log2_sqr_q7-requires
 distance_q7-delta_lag_log2_sqr_q7-requires c =
-    let r = c.before.before in
-    rw ((log-read r.before.before).val, (prev-log-read c).val) (log_small (pos (start r).args.d), log_small (start r).args.prev_lag_8khz)
-
-far-read : (c : goal.After-distance_q7-delta_lag_log2_sqr_q7) → Reads w32 (of_z w32 c.distance_q7-delta_lag_log2_sqr_q7.result) (far (start c.before.before.before))
-far-read c =
-    r_call2 w32 distance c.distance_q7-delta_lag_log2_sqr_q7.type_inv (log-read c.before.before.before.before.before) (prev-log-read c.before) c.distance_q7-delta_lag_log2_sqr_q7.ensures
+    let a = c.args in
+    let l = c.silk_lin2log-lag_log2_q7 in
+    let p = c.silk_lin2log-prev_lag_log2_q7 in
+    let prev : SFits w32 a.prev.lag = search rules in
+    rw ((r_call1 w32 lin2log l.type_inv (r_nat w32 a.d (omega arith)) l.ensures).val, (r_call1 w32 lin2log p.type_inv (r_var prev) p.ensures).val) (log_small (pos a.d), log_small a.prev.lag)
 
 pub prev_lag_bias-requires : goal.prev_lag_bias-requires
-prev_lag_bias-requires c = rw (far-read c).val ((start c.before.before.before).requires.1.0, (distance_low _ _, distance_high _ _))
+prev_lag_bias-requires c =
+    let a = c.args in
+    let l = c.silk_lin2log-lag_log2_q7 in
+    let x = r_call1 w32 lin2log l.type_inv (r_nat w32 a.d (omega arith)) l.ensures in
+    let p = c.silk_lin2log-prev_lag_log2_q7 in
+    let g = c.distance_q7-delta_lag_log2_sqr_q7 in
+    let prev : SFits w32 a.prev.lag = search rules in
+    let far = r_call2 w32 distance g.type_inv x (r_call1 w32 lin2log p.type_inv (r_var prev) p.ensures) g.ensures in
+    rw far.val (c.requires.1.0, (distance_low _ _, distance_high _ _))
 
-near-read : (c : goal.After-prev_lag_bias) → Reads w32 (of_z w32 c.prev_lag_bias.result) (near (start c.before.before.before.before))
-near-read c =
-    let s = start c.before.before.before.before in
-    r_call2 w32 (prev_bias s.args.nb_subfr) c.prev_lag_bias.type_inv (r_var s.ranges.prev_corr) (far-read c.before) c.prev_lag_bias.ensures
+-- the two differences
+module _ (c : goal.After-prev_lag_bias) where
+  less_read : Reads w32 (of_z w32 (to_z w32 (of_z w32 c.args.cc) -ℤ to_z w32 (of_z w32 c.silk_rshift.result))) (less c.args.cc c.args.nb_subfr c.args.d c.args.prev.lag c.args.prev.correlation)
+  unfolding lag_bias
+  less_read =
+      let a = c.args in
+      let l = c.silk_lin2log-lag_log2_q7 in
+      let m = c.silk_smulbb in
+      let x = r_call1 w32 lin2log l.type_inv (r_nat w32 a.d (omega arith)) l.ensures in
+      let long = r_call1 w32 (λ (z : ℤ). shr_z z 128) c.silk_rshift.type_inv (r_call2 w32 smulbb m.type_inv (r_nat w32 (a.nb_subfr * 410) (omega arith)) x m.ensures) c.silk_rshift.ensures in
+      r_sub (r_var c.ranges.cc) long (less_fits a.cc a.nb_subfr a.d a.prev.lag a.prev.correlation c.requires.0)
+
+  near_read : Reads w32 (of_z w32 c.prev_lag_bias.result) (near c.args.cc c.args.nb_subfr c.args.d c.args.prev.lag c.args.prev.correlation)
+  near_read =
+      let a = c.args in
+      let l = c.silk_lin2log-lag_log2_q7 in
+      let x = r_call1 w32 lin2log l.type_inv (r_nat w32 a.d (omega arith)) l.ensures in
+      let p = c.silk_lin2log-prev_lag_log2_q7 in
+      let g = c.distance_q7-delta_lag_log2_sqr_q7 in
+      let prev : SFits w32 a.prev.lag = search rules in
+      let far = r_call2 w32 distance g.type_inv x (r_call1 w32 lin2log p.type_inv (r_var prev) p.ensures) g.ensures in
+      let corr : SFits w32 a.prev.correlation = search rules in
+      r_call2 w32 (prev_bias a.nb_subfr) c.prev_lag_bias.type_inv (r_var corr) far c.prev_lag_bias.ensures
+
+  fits : SFits w32 (less c.args.cc c.args.nb_subfr c.args.d c.args.prev.lag c.args.prev.correlation -ℤ near c.args.cc c.args.nb_subfr c.args.d c.args.prev.lag c.args.prev.correlation)
+  fits = all_fits c.args.cc c.args.nb_subfr c.args.d c.args.prev.lag c.args.prev.correlation c.requires.0
 
 pub overflow_sub-result : goal.overflow_sub-result
-overflow_sub-result c = let r = c.before.before.before.before in f_sub (less-read r) (near-read c) (all-fits (start r))
+overflow_sub-result c = f_sub (less_read c) (near_read c) (fits c)
 
-pub returns-then-prev_lag_8khz-gt0 : goal.returns-then-prev_lag_8khz-gt0
-returns-then-prev_lag_8khz-gt0 c =
-    let r = c.before.before.before.before in
-    let s = start r in
-    (r_sub (less-read r) (near-read c) (all-fits s)).val
-    ∙ biased_yes s.args.cc _ _ _ _ s.requires.0 (t_above (pos 0) (r_var s.ranges.prev_lag_8khz) c.if-prev_lag_8khz-gt0.true)
+pub returns-then-prev-gt0 : goal.returns-then-prev-gt0
+returns-then-prev-gt0 c =
+    let prev : SFits w32 c.args.prev.lag = search rules in
+    (r_sub (less_read c) (near_read c) (fits c)).val ∙ biased_yes c.args.cc _ _ _ _ c.requires.0 (t_above (pos 0) (r_var prev) c.if-prev-gt0.true)
 
-pub returns-else-prev_lag_8khz-gt0 : goal.returns-else-prev_lag_8khz-gt0
-returns-else-prev_lag_8khz-gt0 c =
-    let s = start c.before in
-    (less-read c.before).val ∙ biased_no s.args.cc _ _ _ _ s.requires.0 (t_above (pos 0) (r_var s.ranges.prev_lag_8khz) c.if-prev_lag_8khz-gt0.false)
+pub returns-else-prev-gt0 : goal.returns-else-prev-gt0
+unfolding lag_bias
+returns-else-prev-gt0 c =
+    let a = c.args in
+    let l = c.silk_lin2log-lag_log2_q7 in
+    let m = c.silk_smulbb in
+    let x = r_call1 w32 lin2log l.type_inv (r_nat w32 a.d (omega arith)) l.ensures in
+    let long = r_call1 w32 (λ (z : ℤ). shr_z z 128) c.silk_rshift.type_inv (r_call2 w32 smulbb m.type_inv (r_nat w32 (a.nb_subfr * 410) (omega arith)) x m.ensures) c.silk_rshift.ensures in
+    let prev : SFits w32 a.prev.lag = search rules in
+    (r_sub (r_var c.ranges.cc) long (less_fits a.cc a.nb_subfr a.d a.prev.lag a.prev.correlation c.requires.0)).val ∙ biased_no a.cc _ _ _ _ c.requires.0 (t_above (pos 0) (r_var prev) c.if-prev-gt0.false)
 
 pub overflow_cast-d : goal.overflow_cast-d
 overflow_cast-d c = search zneeds

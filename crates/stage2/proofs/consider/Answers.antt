@@ -4,6 +4,8 @@ use mathlib.Core.Bool.{true, false}
 use Rattle.std.specs.Prelude.{Some}
 use lib.IntN.{ℤ}
 use mir.Syntax.{w32}
+use mir.Val.{SFits}
+use borrow.Author.Rules.{rules}
 use Rattle.zint.specs.ReadLaws.{r_var, r_got, t_lt, via_lt}
 use Rattle.stage2.specs.SearchLaws.{takes, keeps, fails}
 use Rattle.stage2.proofs.consider.Goals as goal
@@ -12,16 +14,19 @@ pub returns-then-score-top : goal.returns-then-score-top
 returns-then-score-top c =
     let a = c.args in
     let f = c.ranges in
+    let cc : SFits w32 c.args.found.cc = search rules in
     let top = (r_got w32 c.top_of-top.type_inv c.top_of-top.ensures).val in
-    ap₂ (λ (x y : ℤ). Some (record { top = x; cc = y; lag = a.d; contour = a.contour })) (r_var f.score).val (r_var f.cc).val
-    ∙ takes a.best _ _ _ _ _ (t_lt (r_var f.thres) (r_var f.cc) c.if-cc-thres.true) (via_lt _ _ _ _ true c.if-score-top.true top (r_var f.score).val)
+    ap₂ (λ (x y : ℤ). Some (record { top = x; cc = y; lag = a.d; contour = a.found.contour })) (r_var f.score).val (r_var cc).val
+    ∙ takes a.best _ _ _ _ _ (t_lt (r_var f.thres) (r_var cc) c.if-found-thres.true) (via_lt _ _ _ _ true c.if-score-top.true top (r_var f.score).val)
 
 pub returns-else-score-top : goal.returns-else-score-top
 returns-else-score-top c =
     let f = c.ranges in
+    let cc : SFits w32 c.args.found.cc = search rules in
     let top = (r_got w32 c.top_of-top.type_inv c.top_of-top.ensures).val in
-    keeps c.args.best _ _ _ _ _ (t_lt (r_var f.thres) (r_var f.cc) c.if-cc-thres.true) (via_lt _ _ _ _ false c.if-score-top.false top (r_var f.score).val)
+    keeps c.args.best _ _ _ _ _ (t_lt (r_var f.thres) (r_var cc) c.if-found-thres.true) (via_lt _ _ _ _ false c.if-score-top.false top (r_var f.score).val)
 
-pub returns-else-cc-thres : goal.returns-else-cc-thres
-returns-else-cc-thres c =
-    fails c.args.best _ _ _ _ _ (t_lt (r_var c.ranges.thres) (r_var c.ranges.cc) c.if-cc-thres.false)
+pub returns-else-found-thres : goal.returns-else-found-thres
+returns-else-found-thres c =
+    let cc : SFits w32 c.args.found.cc = search rules in
+    fails c.args.best _ _ _ _ _ (t_lt (r_var c.ranges.thres) (r_var cc) c.if-found-thres.false)

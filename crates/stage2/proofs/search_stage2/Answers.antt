@@ -11,19 +11,15 @@ use Rattle.lists.specs.Fill.{tabulate}
 use Rattle.lists.specs.FillLaws.{filled_none, filled_turn}
 use Rattle.stage2_correlations.specs.Marks.{measured}
 use Rattle.stage2_correlations.specs.Correlations.{target2, correlation2}
-use Rattle.stage2_correlations.specs.Rows.{subframe_row}
+use Rattle.stage2_correlations.specs.Rows.{row_by, subframe_row}
 use Rattle.stage2_correlations.specs.RowLaws.{subframe_row_kept, zero_in2, zero_row}
-use Rattle.std.specs.Prelude.{Option, Some, None, Ok, Err, ok_or, cond, true, refl}
-use Rattle.std.proofs.lemmas.Result.{err_from_is_err_and}
-use Rattle.answers.specs.declared.NoPitch.{NoPitch}
-use Rattle.answers.specs.declared.NoPitch.TheVariants.{ZeroDivisor as ByZero}
-use Rattle.stage2.specs.Stage2.{answer_of}
+use Rattle.std.specs.Prelude.{Result, Ok, Err, true, refl}
+use Rattle.stage2.specs.Stage2.{ZeroDivisor, answer_of}
 use Rattle.stage2.specs.NumberLaws.{and_numbers}
 use Rattle.silk_tables.proofs.TableLaws.{two_to_four}
 use Rattle.silk_tables.specs.Stage2Laws.{contours2_bounds, contours2_le}
-use Rattle.stage2.specs.Search.{at2, SixteenBits, HandedSearch, ContoursTried, search_in, BestOfAll}
-use Rattle.stage2.specs.declared.LagSearch.{LagSearch}
-use Rattle.stage2.specs.SearchLaws.{rows, rows_small, stage2_picked, stage2_zero}
+use Rattle.stage2.specs.Search.{at2, SixteenBits, search_in, BestOfAll}
+use Rattle.stage2.specs.SearchLaws.{subframes_of, rows, rows_small, stage2_picked, stage2_zero}
 use Rattle.stage2.proofs.search_stage2.Goals as goal
 
 pub loop-k-init : goal.loop-k-init
@@ -37,34 +33,29 @@ subframe_row-requires c =
     (omega (arith, two_to_four h.subframes), omega (arith, h.long))
 
 -- the row of subframe k is that of the definition
-module _ (e : List ℤ) (kept : List ℕ) (k : ℕ) (o : Option (List ℤ)) {m : List Bool} (f : o ≡ subframe_row e m k) (g : m ≡ tabulate (λ i. measured kept (14 + i)) 132) where
-  row_is : o ≡ cond (zero_in2 e kept k) None (Some (tabulate (λ i. correlation2 e kept k (14 + i)) 132))
+module _ (e : List ℤ) (kept : List ℕ) (k : ℕ) {r : Result (List ℤ) (List ℤ)} {m : List Bool} (f : r ≡ subframe_row e m k) (g : m ≡ tabulate (λ i. measured kept (14 + i)) 132) where
+  row_is : r ≡ row_by (zero_in2 e kept k) (tabulate (λ i. correlation2 e kept k (14 + i)) 132)
   row_is =
       f ∙ ap (λ (x : List Bool). subframe_row e x k) g ∙ subframe_row_kept e kept k
-      ∙ ap (λ (t : Bool). cond t None (Some (tabulate (λ i. correlation2 e kept k (14 + i)) 132))) (zero_row e kept k)
+      ∙ ap (λ (t : Bool). row_by t (tabulate (λ i. correlation2 e kept k (14 + i)) 132)) (zero_row e kept k)
 
 -- and the error of one with a zero divisor
-no_row : (t : Bool) (l : List ℤ) {x : NoPitch} (o : Option (List ℤ)) → o ≡ cond t None (Some l) → ok_or o ByZero ≡ Err x → (t ≡ true) × (x ≡ ByZero)
-no_row true l None h k = (refl, cc)
-no_row true l (Some m) h k = cc
-no_row false l None h k = cc
-no_row false l (Some m) h k = cc
+no_row : (t : Bool) (l : List ℤ) {x : List ℤ} {r : Result (List ℤ) (List ℤ)} → r ≡ row_by t l → r ≡ Err x → t ≡ true
+no_row true l h k = refl
+no_row false l h k = cc
 
-some_row : (t : Bool) (l : List ℤ) {m : List ℤ} (o : Option (List ℤ)) → o ≡ cond t None (Some l) → ok_or o ByZero ≡ Ok m → (t ≡ false) × (m ≡ l)
-some_row true l None h k = cc
-some_row true l (Some n) h k = cc
-some_row false l None h k = cc
-some_row false l (Some n) h k = (refl, cc)
+some_row : (t : Bool) (l : List ℤ) {x : List ℤ} {r : Result (List ℤ) (List ℤ)} → r ≡ row_by t l → r ≡ Ok x → (t ≡ false) × (x ≡ l)
+some_row true l h k = cc
+some_row false l h k = (refl, cc)
 
-pub returns-in_err-row : goal.returns-in_err-row
-returns-in_err-row c =
+pub returns-in_default : goal.returns-in_default
+returns-in_default c =
     let a = c.args in
     let k = c.loop-k.k in
     let e = a.frame_8khz.now in
-    let z = no_row (zero_in2 e a.kept.now k) _ c.subframe_row.result (row_is e a.kept.now k c.subframe_row.result c.subframe_row.ensures c.loop-k.invariant.1.1.0) (sym c.ok_or.ensures.value ∙ c.in_err-row.was) in
-    let p = err_from_is_err_and c.from_residual.result c.from_residual.ensures.1 in
-    let q = and_numbers e a.kept.now a.s.rate a.s.nb a.s.complexity a.s.thres2 a.prev.lag a.prev.correlation (answer_of c.from_residual.result)
-    (rw (p.1, p.2, z.1) (stage2_zero e a.kept.now a.s.rate a.s.nb a.s.complexity a.s.thres2 a.prev.lag a.prev.correlation k (omega arith) z.0)) in
+    let z = no_row (zero_in2 e a.kept.now k) _ (row_is e a.kept.now k c.subframe_row.ensures c.loop-k.invariant.1.1.0) c.in_default.is in
+    let q = and_numbers e a.kept.now a.s.rate a.s.nb a.s.complexity a.s.thres2 a.prev.lag a.prev.correlation ZeroDivisor
+    (stage2_zero e a.kept.now a.s.rate a.s.nb a.s.complexity a.s.thres2 a.prev.lag a.prev.correlation k (omega arith) z) in
     record { value = q.0; numbers = q.1 }
 
 pub offset_bounds-c_8khz-k : goal.offset_bounds-c_8khz-k
@@ -80,7 +71,7 @@ loop-k-preserved c =
     let e = a.frame_8khz.now in
     let k = c.loop-k.k in
     let inv = c.loop-k.invariant.1.1 in
-    let z = some_row (zero_in2 e a.kept.now k) _ c.subframe_row.result (row_is e a.kept.now k c.subframe_row.result c.subframe_row.ensures inv.0) (sym c.ok_or.ensures.value ∙ c.in_ok-row.was) in
+    let z = some_row (zero_in2 e a.kept.now k) _ (row_is e a.kept.now k c.subframe_row.ensures inv.0) c.in-Ok.is in
     let row : ℕ → List ℤ = λ q. tabulate (λ i. correlation2 e a.kept.now q (14 + i)) 132 in (
       omega arith,
       (
@@ -95,28 +86,26 @@ loop-k-preserved c =
       ),
     )
 
-pub lag_search-by-requires : goal.lag_search-by-requires
-lag_search-by-requires c = (two_to_four c.requires.subframes).1
+-- the loop's array, and what the search goes by
+array_is : (e : List ℤ) (kept : List ℕ) (c : List (List ℤ)) {k nb : ℕ} → c ≡ rows e kept k → k ≡ nb → c ≡ rows e kept nb
+array_is e kept c f g = f ∙ ap (rows e kept) g
 
-pub pick_lag-requires : goal.pick_lag-requires
-pick_lag-requires c =
+pub invariant_of-search : goal.invariant_of-search
+invariant_of-search c =
     let a = c.args in
     let h = two_to_four c.requires.subframes in
     let b = contours2_bounds a.s.rate a.s.nb a.s.complexity in
     let l = contours2_le a.s.rate a.s.nb a.s.complexity in
     let k : c.loop-k.k ≡ a.s.nb = omega arith in
-    let array = c.loop-k.invariant.1.1.1.1 ∙ ap (rows a.frame_8khz.now a.kept.now) k in
-    let by = c.lag_search-by.ensures in
-    subst (λ (y : LagSearch). HandedSearch c.loop-k.c_8khz a.kept.now y.nb × ContoursTried y) (sym by) (
-      record {
-        small = subst (λ (x : List (List ℤ)). SixteenBits (at2 x) a.s.nb) (sym array) (rows_small a.frame_8khz.now a.kept.now a.s.nb);
-        lags = c.requires.lags;
-        subframes = c.requires.subframes;
-        at_least = h.0;
-        at_most = h.1;
-      },
-      record { some_tried = omega arith; in_codebook = omega arith },
-    )
+    let array = array_is a.frame_8khz.now a.kept.now c.loop-k.c_8khz c.loop-k.invariant.1.1.1.1 k in
+    let by = c.lag_search.ensures in
+    rw by (record {
+      small = subst (λ (x : List (List ℤ)). SixteenBits (at2 x) a.s.nb) (sym array) (rows_small a.frame_8khz.now a.kept.now a.s.nb);
+      subframes = subframes_of c.requires.subframes;
+      at_most = h.1;
+      some_tried = omega arith;
+      in_codebook = omega arith;
+    })
 
 pub answer-requires : goal.answer-requires
 answer-requires c = (c.pick_lag.ensures.small, two_to_four c.requires.subframes)
@@ -125,8 +114,8 @@ pub returns : goal.returns
 returns c =
     let a = c.args in
     let k : c.loop-k.k ≡ a.s.nb = omega arith in
-    let array = c.loop-k.invariant.1.1.1.1 ∙ ap (rows a.frame_8khz.now a.kept.now) k in
-    let by = c.lag_search-by.ensures in
+    let array = array_is a.frame_8khz.now a.kept.now c.loop-k.c_8khz c.loop-k.invariant.1.1.1.1 k in
+    let by = c.lag_search.ensures in
     let u = transport (λ t. BestOfAll (search_in (array t) a.kept.now (by t)) c.pick_lag.result) c.pick_lag.ensures in
     let p = and_numbers _ _ _ _ _ _ _ _ (answer_of c.answer.result)
     (c.answer.ensures

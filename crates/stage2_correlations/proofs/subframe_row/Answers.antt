@@ -1,4 +1,6 @@
 -- `stage2_correlations::subframe_row` meets its contract.
+use mathlib.Core.Bool.{Bool, not}
+use mathlib.Core.List.{List}
 use mathlib.Core.Path.{◌≡◌, refl, sym, ap, ap₂, ◌∙◌}
 use Prim.Native.Nat.{ℕ, ◌+◌, ◌-◌, ◌*◌}
 use native.Mathlib.Omega.{arith}
@@ -11,16 +13,16 @@ use Rattle.zint.specs.Wrap.{wrap}
 use Rattle.zint.specs.ReadLaws.{r_got, r_elem, r_lit, r_call2}
 use Rattle.lists.specs.Fill.{filled}
 use Rattle.lists.specs.FillLaws.{filled_none, filled_turn, filled_all}
-use borrow.Author.Count.{below_more}
-use Rattle.std.specs.Prelude.{Some}
-use mathlib.Core.Bool.{false}
+use Rattle.std.specs.Prelude.{Option, unwrap_or, is_none}
+use Rattle.best.specs.Best.{some}
 use Rattle.silk_sigproc.specs.Dot.{energy_sum}
 use Rattle.stage2_correlations.specs.Correlations.{target2 as start_of_lem}
-use Rattle.stage2_correlations.specs.Rows.{value_at, zero_at}
-use Rattle.stage2_correlations.specs.RowLaws.{divisor_is, energy_back, at_lag_is, lag_some, lag_none, row_some, row_none}
+use Rattle.stage2_correlations.specs.Rows.{value_at, zero_at, row_by, subframe_row}
+use Rattle.stage2_correlations.specs.RowLaws.{divisor_is, energy_back, at_lag_is, lag_value, lag_zero, some_more, some_same}
 use Rattle.zint.specs.RuleLaws.{zneeds}
 use borrow.Author.Rules.{rules}
 use Rattle.stage2_correlations.proofs.subframe_row.Goals as goal
+use Rattle.stage2_correlations.proofs.subframe_row.Goals.{then-is_none, else-is_none}
 
 pub energy_of_40-requires : goal.energy_of_40-requires
 unfolding start_of_lem
@@ -31,17 +33,17 @@ unfolding start_of_lem
 energy_of_40-energy_basis-requires c = omega arith
 
 pub loop-i-init : goal.loop-i-init
-unfolding start_of_lem
+unfolding start_of_lem some
 loop-i-init c =
     let a = c.energy_of_40 in
     let b = c.wrapping_add_i32-energy_target in
     let t = (r_call2 w32 (λ (x y : ℤ). wrap w32 (x +ℤ y)) b.type_inv (r_got w32 a.type_inv a.ensures) (r_lit w32 1 tt) b.ensures).val in
     let u = (r_got w32 c.energy_of_40-energy_basis.type_inv c.energy_of_40-energy_basis.ensures).val in
-    (omega arith, (refl, (t, (u, (filled_none _ _, λ q h. absurd (omega arith))))))
+    (omega arith, (refl, (t, (u, (filled_none _ _, refl)))))
 
-pub correlate-requires : goal.correlate-requires
+pub correlate-at-requires : goal.correlate-at-requires
 unfolding start_of_lem
-correlate-requires c = (omega arith, c.requires.1)
+correlate-at-requires c = (omega arith, c.requires.1)
 
 pub bounds-frame_8khz-basis : goal.bounds-frame_8khz-basis
 unfolding start_of_lem
@@ -73,42 +75,39 @@ loop-i-preserved c =
     -- the lag's correlation
     let n = c.wrapping_add_i32-norm in
     let normed = (r_got w32 n.type_inv (n.ensures ∙ ap₂ (λ (x y : ℤ). wrap w32 (x +ℤ y)) inv.1.0 inv.1.1.0 ∙ divisor_is e a.k (14 + i))).val in
-    let r = sym (c.correlate.ensures ∙ at_lag_is e a.marks.now a.k i _ normed) ∙ c.in_ok-value.was in
-    let p = lag_some (zero_at e a.marks.now a.k i) (value_at e a.marks.now a.k i) r in
-    let stored : to_z w16 (of_z w16 c.in_ok-value.value) ≡ c.in_ok-value.value = search zneeds in (
+    let r = c.correlate-at.ensures ∙ at_lag_is e a.marks.now a.k i _ normed in
+    let f = zero_at e a.marks.now a.k in
+    let stored : to_z w16 (of_z w16 c.unwrap_or.result) ≡ c.unwrap_or.result = search zneeds in
+    let v = stored ∙ c.unwrap_or.ensures ∙ ap (λ (x : Option ℤ). unwrap_or x (pos 0)) r ∙ lag_value e a.marks.now a.k i in
+    let z : is_none c.correlate-at.result ≡ f i = ap is_none r ∙ lag_zero (f i) (value_at e a.marks.now a.k i) in
+    let w : c.if-is_none.zero ≡ some (i + 1) f =
+    elim c.if-is_none.branch [
+      | then-is_none w ↦ some_more i f (sym z ∙ ap not w.if-is_none.ensures) w.zero-is
+      | else-is_none w ↦ some_same i f (sym z ∙ ap not w.if-is_none.ensures) (w.zero-is ∙ inv.1.1.1.1)
+    ]
+    in (
       omega arith,
-      (
-        refl,
-        (
-          inv.1.0,
-          (
-            y,
-            (
-              filled_turn (value_at e a.marks.now a.k) i (replicate 132 (pos 0)) inv.1.1.1.0 (stored ∙ p.1) (omega arith),
-              below_more (λ (q : ℕ). zero_at e a.marks.now a.k q ≡ false) i inv.1.1.1.1 p.0,
-            ),
-          ),
-        ),
-      ),
+      (refl, (inv.1.0, (y, (filled_turn (value_at e a.marks.now a.k) i (replicate 132 (pos 0)) inv.1.1.1.0 v (omega arith), w)))),
     )
 
-pub returns-in_err-value : goal.returns-in_err-value
-unfolding start_of_lem
-returns-in_err-value c =
-    let a = c.args in
-    let e = a.frame_8khz.now in
-    let i = c.loop-i.i in
-    let inv = c.loop-i.invariant.1 in
-    let n = c.wrapping_add_i32-norm in
-    let normed = (r_got w32 n.type_inv (n.ensures ∙ ap₂ (λ (x y : ℤ). wrap w32 (x +ℤ y)) inv.1.0 inv.1.1.0 ∙ divisor_is e a.k (14 + i))).val in
-    let r = sym (c.correlate.ensures ∙ at_lag_is e a.marks.now a.k i _ normed) ∙ c.in_err-value.was in
-    c.from_residual.ensures ∙ row_none e a.marks.now a.k i (omega arith) (lag_none (zero_at e a.marks.now a.k i) (value_at e a.marks.now a.k i) r)
+-- the numbers, and whether a divisor is zero, once the loop has ended
+module _ (e : List ℤ) (m : List Bool) (k i : ℕ) (h : i ≡ 132) where
+  row_is : (t : Bool) (c : List ℤ) → c ≡ filled (value_at e m k) i (replicate 132 (pos 0)) → t ≡ some i (zero_at e m k) → row_by t c ≡ subframe_row e m k
+  unfolding subframe_row
+  row_is t c p q =
+      ap₂ row_by (q ∙ ap (λ (n : ℕ). some n (zero_at e m k)) h)
+      (p ∙ ap (λ (n : ℕ). filled (value_at e m k) n (replicate 132 (pos 0))) h ∙ filled_all (value_at e m k) 132 (replicate 132 (pos 0)) (lit≤ tt))
 
-pub returns : goal.returns
-returns c =
+pub returns-then-zero : goal.returns-then-zero
+returns-then-zero c =
     let a = c.args in
-    let e : c.loop-i.i ≡ 132 = omega arith in
-    let f = value_at a.frame_8khz.now a.marks.now a.k in
-    let i = c.loop-i.invariant.1.1.1.1 in
-    ap Some (i.0 ∙ ap (λ (n : ℕ). filled f n (replicate 132 (pos 0))) e ∙ filled_all f 132 (replicate 132 (pos 0)) (lit≤ tt))
-    ∙ row_some a.frame_8khz.now a.marks.now a.k (λ q h. i.1 q (omega arith))
+    let l = c.loop-i in
+    let i = l.invariant.1.1.1.1 in
+    ap (λ (t : Bool). row_by t l.c_8khz) (sym c.if-zero.true) ∙ row_is a.frame_8khz.now a.marks.now a.k l.i (omega arith) l.zero l.c_8khz i.0 i.1
+
+pub returns-else-zero : goal.returns-else-zero
+returns-else-zero c =
+    let a = c.args in
+    let l = c.loop-i in
+    let i = l.invariant.1.1.1.1 in
+    ap (λ (t : Bool). row_by t l.c_8khz) (sym c.if-zero.false) ∙ row_is a.frame_8khz.now a.marks.now a.k l.i (omega arith) l.zero l.c_8khz i.0 i.1

@@ -1,7 +1,7 @@
 -- The invariants of `subframe_row`.
 use mathlib.Core.Path.{◌≡◌}
-use mathlib.Core.Bool.{false}
-use Prim.Native.Nat.{ℕ, ◌+◌, ◌-◌, ◌≤◌, ◌<◌}
+use Rattle.best.specs.Best.{some}
+use Prim.Native.Nat.{◌+◌, ◌-◌, ◌≤◌}
 use lib.IntN.{pos, ◌+ℤ◌}
 use lib.ListN.{replicate}
 use mir.Syntax.{w32}
@@ -14,4 +14,4 @@ use Rattle.stage2_correlations.proofs.subframe_row.Given as goal
 
 abbrev pub invariant-loop-i : goal.invariant-loop-i
 invariant-loop-i l =
-    (l.i ≤ 132) × ((l.target ≡ start_of_lem l.k) × ((l.energy_target ≡ wrap w32 (wrap w32 (energy_sum l.frame_8khz (start_of_lem l.k) 40) +ℤ pos 1)) × ((l.energy_basis ≡ wrap w32 (energy_sum l.frame_8khz (start_of_lem l.k - (14 + l.i)) 40)) × ((l.c_8khz ≡ filled (value_at l.frame_8khz l.marks l.k) l.i (replicate 132 (pos 0))) × ((q : ℕ) → q < l.i → zero_at l.frame_8khz l.marks l.k q ≡ false)))))
+    (l.i ≤ 132) × ((l.target ≡ start_of_lem l.k) × ((l.energy_target ≡ wrap w32 (wrap w32 (energy_sum l.frame_8khz (start_of_lem l.k) 40) +ℤ pos 1)) × ((l.energy_basis ≡ wrap w32 (energy_sum l.frame_8khz (start_of_lem l.k - (14 + l.i)) 40)) × ((l.c_8khz ≡ filled (value_at l.frame_8khz l.marks l.k) l.i (replicate 132 (pos 0))) × (l.zero ≡ some l.i (zero_at l.frame_8khz l.marks l.k))))))

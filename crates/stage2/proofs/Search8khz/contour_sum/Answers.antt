@@ -1,4 +1,4 @@
--- `stage2::contour_sum` meets its contract.
+-- `stage2::Search8khz::contour_sum` meets its contract.
 use mathlib.Core.Path.{◌≡◌, refl, sym, ap, ap₂, ◌∙◌}
 use Prim.Native.Nat.{ℕ, ◌≤◌, ◌<◌}
 use native.Mathlib.Omega.{arith}
@@ -12,15 +12,16 @@ use Rattle.silk_tables.specs.Stage2Laws.{moved2_is, moved2_fits}
 use Rattle.stage2.specs.Scores.{sum, contour_sum}
 use Rattle.stage2.specs.ScoreLaws.{sum_next, sum_small, moved_in}
 use Rattle.stage2.specs.Search.{at2}
+use Rattle.stage2.specs.SearchLaws.{two_or_four}
 use borrow.Author.Rules.{rules}
-use Rattle.stage2.proofs.contour_sum.Goals as goal
+use Rattle.stage2.proofs.Search8khz.contour_sum.Goals as goal
 
 pub loop-i-init : goal.loop-i-init
 unfolding sum
 loop-i-init c = (omega arith, refl)
 
 pub lag_cb_stage2-requires : goal.lag_cb_stage2-requires
-lag_cb_stage2-requires c = (c.requires.0.subframes, (omega arith, c.requires.1))
+lag_cb_stage2-requires c = (two_or_four c.args.self.now.subframes, (omega arith, c.requires.1.1))
 
 -- the lag that the contour moves d to, and its place in the row
 module _ (c : goal.After-lag_cb_stage2) where
@@ -28,19 +29,18 @@ module _ (c : goal.After-lag_cb_stage2) where
   at = c.loop-i.i
 
   abbrev moved : ℤ
-  moved = pos c.args.d +ℤ offset2 c.args.nb_subfr at c.args.j
+  moved = pos c.args.d +ℤ offset2 c.args.self.now.by.nb at c.args.j
 
   moved_read : Reads w32 (of_z w32 (to_z w32 c.args.d +ℤ to_z w32 (of_z w32 c.lag_cb_stage2.result))) moved
   moved_read =
-      let h = c.requires.0 in
       r_add (r_nat w32 c.args.d (omega arith)) (r_got w32 c.lag_cb_stage2.type_inv c.lag_cb_stage2.ensures)
-      (moved2_fits c.args.nb_subfr at c.args.d c.args.j (omega arith))
+      (moved2_fits c.args.self.now.by.nb at c.args.d c.args.j (omega arith))
 
   abbrev lag : ℕ
-  lag = moved_lag2 c.args.nb_subfr at c.args.d c.args.j
+  lag = moved_lag2 c.args.self.now.by.nb at c.args.d c.args.j
 
   lag_in : (14 ≤ lag) × (lag ≤ 145)
-  lag_in = moved_in c.args.nb_subfr at c.args.d c.args.j c.requires.0.low c.requires.0.high
+  lag_in = moved_in c.args.self.now.by.nb at c.args.d c.args.j c.requires.0 c.requires.1.0
 
   lag_is : nat_abs (to_z w32 (of_z w32 (to_z w32 c.args.d +ℤ to_z w32 (of_z w32 c.lag_cb_stage2.result)))) ≡ lag
   unfolding moved_lag2
@@ -49,46 +49,43 @@ module _ (c : goal.After-lag_cb_stage2) where
 pub overflow_add-d_subfr : goal.overflow_add-d_subfr
 overflow_add-d_subfr c =
     let a = c.args in
-    let h = c.requires.0 in
-    f_add (r_nat w32 a.d (omega arith)) (r_got w32 c.lag_cb_stage2.type_inv c.lag_cb_stage2.ensures) (moved2_fits a.nb_subfr (at c) a.d a.j (omega arith))
+    f_add (r_nat w32 a.d (omega arith)) (r_got w32 c.lag_cb_stage2.type_inv c.lag_cb_stage2.ensures) (moved2_fits a.self.now.by.nb (at c) a.d a.j (omega arith))
 
 pub overflow_cast-d_subfr-in-loop-i : goal.overflow_cast-d_subfr-in-loop-i
 overflow_cast-d_subfr-in-loop-i c =
     let a = c.args in
-    let h = c.requires.0 in
-    as_unsigned w64 (lag c) ((moved_read c).val ∙ sym (moved2_is a.nb_subfr (at c) a.d a.j (omega arith))) (omega (arith, lag_in c))
+    as_unsigned w64 (lag c) ((moved_read c).val ∙ sym (moved2_is a.self.now.by.nb (at c) a.d a.j (omega arith))) (omega (arith, lag_in c))
 
 pub overflow_sub-cc : goal.overflow_sub-cc
 overflow_sub-cc c = omega (arith, lag_is c, lag_in c)
 
-pub bounds-c_8khz-d_subfr : goal.bounds-c_8khz-d_subfr
-bounds-c_8khz-d_subfr c = omega (arith, lag_is c, lag_in c)
+pub bounds-self-d_subfr : goal.bounds-self-d_subfr
+bounds-self-d_subfr c = omega (arith, lag_is c, lag_in c)
 
 -- the correlation that is added, and the sum
 module _ (c : goal.After-cc-1) where
   abbrev each : ℕ → ℤ
-  each k = at2 c.args.c_8khz.now k (moved_lag2 c.args.nb_subfr k c.args.d c.args.j)
+  each k = at2 c.args.self.now.c_8khz.now k (moved_lag2 c.args.self.now.by.nb k c.args.d c.args.j)
 
   abbrev element : ℤ
-  element = at2 c.args.c_8khz.now c.loop-i.i (nat_abs (to_z w32 (of_z w32 (to_z w32 c.args.d +ℤ to_z w32 (of_z w32 c.lag_cb_stage2.result)))))
+  element = at2 c.args.self.now.c_8khz.now c.loop-i.i (nat_abs (to_z w32 (of_z w32 (to_z w32 c.args.d +ℤ to_z w32 (of_z w32 c.lag_cb_stage2.result)))))
 
   element_read : Reads w32 (of_z w32 (to_z w16 (of_z w16 element))) (each c.loop-i.i)
-  element_read = r_as (wide_32 (record { sfits = search rules })) (ap (at2 c.args.c_8khz.now c.loop-i.i) (lag_is c.before))
+  element_read = r_as (wide_32 (record { sfits = search rules })) (ap (at2 c.args.self.now.c_8khz.now c.loop-i.i) (lag_is c.before))
 
-  small : (k : ℕ) → k < c.args.nb_subfr → nat_abs (each k) ≤ 32768
+  small : (k : ℕ) → k < c.args.self.now.by.nb → nat_abs (each k) ≤ 32768
   small k l =
       let a = c.args in
-      let h = c.requires.0 in
-      let m = moved_in a.nb_subfr k a.d a.j h.low h.high in
-      h.small.each k _ l m.0 m.1
+      let m = moved_in a.self.now.by.nb k a.d a.j c.requires.0 c.requires.1.0 in
+      a.self.now.small.each k _ l m.0 m.1
 
   sum_fits : SFits w32 (sum each c.loop-i.i +ℤ each c.loop-i.i)
   sum_fits =
       let i = c.loop-i.i in
-      let h : i < c.args.nb_subfr = c.loop-i-test.true in
+      let h : i < c.args.self.now.by.nb = c.loop-i-test.true in
       let p = sum_small each i 32768 (λ k l. small k (omega arith)) in
       let q = abs_add (sum each i) (each i) p (small i h) in
-      let r = c.requires.0.at_most in
+      let r = c.args.self.now.at_most in
       abs_fits {K = 131072} (sum each i +ℤ each i) tt (omega (arith, q))
 
 pub overflow_add-cc : goal.overflow_add-cc
@@ -103,5 +100,5 @@ pub returns : goal.returns
 unfolding contour_sum
 returns c =
     let a = c.args in
-    let e : c.loop-i.i ≡ a.nb_subfr = omega arith in
-    c.loop-i.invariant.1 ∙ ap (sum (λ (k : ℕ). at2 a.c_8khz.now k (moved_lag2 a.nb_subfr k a.d a.j))) e
+    let e : c.loop-i.i ≡ a.self.now.by.nb = omega arith in
+    c.loop-i.invariant.1 ∙ ap (sum (λ (k : ℕ). at2 a.self.now.c_8khz.now k (moved_lag2 a.self.now.by.nb k a.d a.j))) e

@@ -1,6 +1,7 @@
--- `stage2::try_lag` meets its contract.
+-- `stage2::Search8khz::try_lag` meets its contract.
 use mathlib.Core.Path.{◌≡◌, sym, ap, ◌∙◌}
 use Prim.Native.Nat.{ℕ}
+use lib.IntN.{ℤ}
 use mir.Syntax.{w32}
 use mir.Val.{to_z, of_z}
 use Rattle.zint.specs.ReadLaws.{r_got}
@@ -10,7 +11,7 @@ use Rattle.stage2.specs.ScoreLaws.{lag_small}
 use Rattle.stage2.specs.Search.{search_in, along, considered}
 use Rattle.stage2.specs.SearchLaws.{with_listed, with_unlisted}
 use Rattle.zint.specs.RuleLaws.{zneeds}
-use Rattle.stage2.proofs.try_lag.Goals as goal
+use Rattle.stage2.proofs.Search8khz.try_lag.Goals as goal
 
 -- the lag's sum and contour, from those of the code's search
 module _ (s : Search2) (d : ℕ) (found : Along) (e : found ≡ along s.correlations s.subframes s.contours d) where
@@ -25,26 +26,25 @@ module _ (s : Search2) (d : ℕ) (found : Along) (e : found ≡ along s.correlat
 pub biased_score-score-requires : goal.biased_score-score-requires
 biased_score-score-requires c =
     let a = c.args in
-    let h = c.requires.handed_lag.0 in
-    let s = search_in a.c_8khz.now a.kept.now a.by in
+    let h = a.self.now in
+    let s = search_in a.self.now.c_8khz.now a.self.now.kept.lags.now a.self.now.by in
     let x = c.best_contour-found in
     let held : to_z w32 (of_z w32 x.result.cc) ≡ x.result.cc = search zneeds in
-    rw (held ∙ sum_is s a.d x.result x.ensures) (lag_small s.correlations s.subframes a.d h.small h.low h.high s.contours h.at_most, (h.at_most, h.high))
+    rw (held ∙ sum_is s a.d x.result x.ensures) (lag_small s.correlations s.subframes a.d h.small c.requires.0 c.requires.1 s.contours h.at_most, (h.at_most, c.requires.1))
 
 pub returns-then-is_listed : goal.returns-then-is_listed
 unfolding score2
 returns-then-is_listed c =
     let a = c.args in
-    let s = search_in a.c_8khz.now a.kept.now a.by in
+    let s = search_in a.self.now.c_8khz.now a.self.now.kept.lags.now a.self.now.by in
     let x = c.best_contour-found in
     let f = c.biased_score-score in
+    let by = a.self.now.by in
     let held : to_z w32 (of_z w32 x.result.cc) ≡ x.result.cc = search zneeds in
-    let prev : to_z w32 (of_z w32 a.by.prev.lag) ≡ a.by.prev.lag = search zneeds in
-    let corr : to_z w32 (of_z w32 a.by.prev.correlation) ≡ a.by.prev.correlation = search zneeds in
-    let thres : to_z w32 (of_z w32 a.by.thres) ≡ a.by.thres = search zneeds in
-    let summed = held ∙ sum_is s a.d x.result x.ensures in
+    let thres : to_z w32 (of_z w32 by.thres) ≡ by.thres = search zneeds in
+    let summed = sum_is s a.d x.result x.ensures in
     let contour = contour_is s a.d x.result x.ensures in
-    let e = (r_got w32 f.type_inv (f.ensures ∙ (λ t. biased2 (summed t) a.by.nb a.d (prev t) (corr t)))).val in
+    let e = (r_got w32 f.type_inv (f.ensures ∙ ap (λ (z : ℤ). biased2 z by.nb a.d by.prev.lag by.prev.correlation) (held ∙ summed))).val in
     c.consider.ensures
     ∙ (λ t. considered a.best a.d (summed t) (contour t) (e t) (thres t))
     ∙ with_listed s a.d a.best (sym c.is_listed.ensures ∙ c.if-is_listed.true)
@@ -52,4 +52,4 @@ returns-then-is_listed c =
 pub returns-else-is_listed : goal.returns-else-is_listed
 returns-else-is_listed c =
     let a = c.args in
-    with_unlisted (search_in a.c_8khz.now a.kept.now a.by) a.d a.best (sym c.is_listed.ensures ∙ c.if-is_listed.false)
+    with_unlisted (search_in a.self.now.c_8khz.now a.self.now.kept.lags.now a.self.now.by) a.d a.best (sym c.is_listed.ensures ∙ c.if-is_listed.false)

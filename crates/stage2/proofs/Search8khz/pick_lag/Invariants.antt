@@ -2,7 +2,7 @@
 use Prim.Native.Nat.{◌-◌, ◌≤◌}
 use Rattle.stage2.specs.Search.{search_in}
 use Rattle.stage2.specs.SearchLaws.{AfterLags}
-use Rattle.stage2.proofs.pick_lag.Given as goal
+use Rattle.stage2.proofs.Search8khz.pick_lag.Given as goal
 
 abbrev pub invariant-loop-d : goal.invariant-loop-d
-invariant-loop-d l = (16 ≤ l.d) × ((l.d ≤ 144) × AfterLags (search_in l.c_8khz l.kept l.by) (l.d - 16) l.best)
+invariant-loop-d l = (16 ≤ l.d) × ((l.d ≤ 144) × AfterLags (search_in l.self.c_8khz.now l.self.kept.lags.now l.self.by) (l.d - 16) l.best)

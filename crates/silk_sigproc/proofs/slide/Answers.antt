@@ -1,11 +1,11 @@
--- `stage2_correlations::slide` meets its contract.
+-- `silk_sigproc::slide` meets its contract.
 use mathlib.Core.Path.{◌∙◌}
 use lib.IntN.{ℤ, ◌+ℤ◌, ◌-ℤ◌, ◌*ℤ◌}
 use mir.Syntax.{w32}
 use Rattle.zint.specs.Wrap.{wrap}
 use Rattle.zint.specs.WrapLaws.{wraps}
 use Rattle.zint.specs.ReadLaws.{r_var, r_call1, r_call2}
-use Rattle.stage2_correlations.proofs.slide.Goals as goal
+use Rattle.silk_sigproc.proofs.slide.Goals as goal
 
 pub returns : goal.returns
 returns c =
