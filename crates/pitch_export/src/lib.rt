@@ -10,7 +10,7 @@ use pitch_settings::Settings;
 use silk_pitch_analysis::{Verdict, silk_pitch_analysis_core};
 use speech_threshold::Speech;
 
-// Writes the four numbers of a verdict.
+// Writes the four numbers of a verdict, whose kind is a number to a program in C.
 fn put_verdict(
     v: Verdict,
     verdict: &mut i32,
@@ -78,6 +78,7 @@ pub fn pitch_frame(
 }
 
 // The threshold call: 0, with the threshold written, which is the thres2 of `pitch_frame`; or 11, where one of the four numbers leaves its range, with nothing written.
+// The type of the signal is any number, as a program in C hands it over, and it is judged.
 pub fn pitch_threshold(
     order: i32,
     activity: i32,

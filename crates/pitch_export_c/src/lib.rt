@@ -42,6 +42,7 @@ pub extern "C" fn pitch_frame(
 }
 
 // The threshold call for C and Rust: 0, with the threshold written, which is the thres2 of `pitch_frame`; or 11, where one of the four numbers leaves its range, with nothing written.
+// The type of the signal is any number, as a program in C hands it over, and it is judged.
 #[unsafe(no_mangle)]
 pub extern "C" fn pitch_threshold(
     order: i32,

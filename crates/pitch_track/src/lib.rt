@@ -1,14 +1,14 @@
 // A pitch track that is fed by deliveries of samples: start and deliver.
 #![tactic(auto)]
 
-ghost use Rattle.std.specs.Prelude.{◌≡◌, [], ◌∷◌, ◌++◌, ◌+◌, ◌*◌, ◌<◌, ◌≤◌, length, take, drop, pos, cond, eqb};
+ghost use Rattle.std.specs.Prelude.{Ok, ◌≡◌, [], ◌∷◌, ◌++◌, ◌+◌, ◌*◌, ◌<◌, ◌≤◌, length, take, drop, pos, cond, eqb};
 ghost use Rattle.answers.specs.Answer.{answer_numbers};
 ghost use Rattle.refusals.specs.Refusals.{told};
 ghost use Rattle.pitch_settings.specs.Settings.{frame_length, hop_length};
 ghost use Rattle.pitch_table.specs.Row.{row_size};
 ghost use Rattle.track_settings.specs.TrackSettings.{stored_settings};
 ghost use Rattle.track_paper.specs.Paper.{F, track_answer_numbers, row_type, after, previous, paper_numbers};
-ghost use Rattle.pitch_track.specs.Step.{said, start_no, start_call, delivery_no, frames_after, deliver_call, delivery_outcome};
+ghost use Rattle.pitch_track.specs.Step.{said, start_no, start_call, delivery_no, frames_after, accepted_delivery, deliver_call, delivery_outcome};
 
 mod pending;
 
@@ -64,7 +64,8 @@ fn left_by(s: Settings, r: Row) -> Prev
     }
 }
 
-// `new` rows, from row `frames` of the table on, each with the threshold that the row before it gives.
+// `new` rows, from row `frames` of the table on, each with the threshold that the row before it gives. The two counts stand beside the table: where no frame is new, it may have fewer than
+// `frames` rows, so that no part of it could be lent in their place.
 fn put_rows(
     k: AnalysedTrack,
     pending: Pending,
@@ -83,6 +84,7 @@ fn put_rows(
     let s = k.stored();
     let hop = s.hop_length();
     let mut q = p;
+    // i is the frame: its samples begin at i hops, and its row is the i-th of the new ones
     for i in 0..new {
         let of_row = k.of_row(q.signal);
         let row = pending.row(of_row, i * hop, q);
@@ -140,6 +142,15 @@ impl Track {
             numbers: table.len(),
         };
         let k = delivery.check(track_limit(), self.settings)?;
+        Ok(self.advance(k, samples, table))
+    }
+
+    // The frames then done, after a delivery that is not refused.
+    fn advance(&mut self, k: AnalysedTrack, samples: &[i16], table: &mut [i32]) -> usize
+        requires settings { k.settings ≡ self.old.settings }
+        requires number { delivery_no self.old table.old samples.now ≡ 0 }
+        ensures { delivery_outcome (record { answer = Ok result; track = self.new }) table.new ≡ accepted_delivery self.old table.old samples.now (F (stored_settings self.old.settings) (self.old.count + length samples.now)) }
+    {
         let framing = Framing::from(k.stored());
         let n = self.count + samples.len();
         let new = framing.frames_in(n);
@@ -150,11 +161,12 @@ impl Track {
             samples,
         };
         let prev = put_rows(k, pending, table, self.frames, new, self.prev);
-        let rest = pending.window(from, n - from);
+        let left = n - from;
+        let rest = pending.window(from, left);
         self.frames += new;
         self.held = rest;
-        self.count = n - from;
+        self.count = left;
         self.prev = prev;
-        Ok(self.frames)
+        self.frames
     }
 }

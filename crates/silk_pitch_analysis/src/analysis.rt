@@ -77,7 +77,7 @@ impl Analysis {
         requires { self.settings.settings.nb ≤ length out.old }
         ensures { out.new ≡ filled (lag_of self.settings.settings self.verdict) self.settings.settings.nb out.old }
     {
-        // k is the subframe itself, and a slice's iterator would have to count it
+        // k is the subframe; by index, since a proof knows nothing of what an adapter over `iter_mut` writes
         for k in 0..self.settings.settings.nb {
             out[k] = self.lag(k);
         }

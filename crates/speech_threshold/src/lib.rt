@@ -28,7 +28,7 @@ fn within(low: i32, high: i32, z: i32) -> bool
 }
 
 impl Speech {
-    // Whether each of the four numbers is in its range.
+    // Whether each of the four numbers is in its range. The type is any number, since it is judged here.
     #[tactic(auto, unfolding(crate::specs::Threshold::in_range))]
     fn in_range(self, signal_type: i32) -> bool
         ensures { result ≡ in_range self.order self.activity signal_type self.tilt }
@@ -40,6 +40,7 @@ impl Speech {
     }
 
     // Refusal 11 where one of the four numbers leaves its range: the filter's order 0 to 16, the activity 0 to 255, the type of the previous signal 0 to 2, the tilt 16 bits with their sign.
+    // The type is any number, since it is judged here.
     #[tactic(auto, unfolding(crate::specs::Threshold::threshold_no))]
     pub fn check(self, signal_type: i32) -> Result<(), Refusal>
         ensures { number_told result ≡ threshold_no self.order self.activity signal_type self.tilt }
@@ -51,7 +52,7 @@ impl Speech {
         }
     }
 
-    // The source's steps, for any four numbers.
+    // The source's steps, for any four numbers: a type that is one of three cases would ask more of callers.
     #[tactic(auto, unfolding(crate::specs::Threshold::threshold_value, crate::specs::Threshold::less_tilt, crate::specs::Threshold::less_type, crate::specs::Threshold::less_activity, crate::specs::Threshold::less_order))]
     pub fn threshold_value(self, signal_type: i32) -> i32
         ensures { result ≡ threshold_value self.order self.activity signal_type self.tilt }
@@ -64,6 +65,7 @@ impl Speech {
 
     // The threshold of stage 2 (Q13) for a frame, from the order of the whitening filter (0 to 16), the speech activity (Q8, 0 to 255), the tilt of the spectrum (Q15, 16 bits with their sign)
     // and the type of the previous signal (0 none, 1 unvoiced, 2 voiced); or refusal 11 where one of them leaves its range. Handed to the frame call as thres2, it is the encoder's.
+    // The type is any number, since it is judged here.
     #[tactic(auto, unfolding(crate::specs::Threshold::threshold_call))]
     pub fn threshold(self, signal_type: i32) -> Result<i32, Refusal>
         ensures answer { told result ≡ threshold_call self.order self.activity signal_type self.tilt }

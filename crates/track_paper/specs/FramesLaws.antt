@@ -1,8 +1,7 @@
 -- The laws of F(n), the frames in n samples.
+use Rattle.std.proofs.Common.{sym, ap, ◌∙◌, inl, inr, ⊎_elim, div-mul-le_self, mul-le-mul_right, add-mul, arith, lt-ltb, le-ltb}
 use Rattle.std.specs.Prelude.{ℕ, zero, suc, ◌+◌, ◌-◌, ◌*◌, ◌/◌, ◌≤◌, ◌<◌, ◌≡◌, ◌⊎◌}
-use Rattle.std.proofs.Common.{sym, ap, ◌∙◌, inl, inr, ⊎_elim, div-mul-le_self, mul-le-mul_right, add-mul, arith}
 use Rattle.std.proofs.Math.Nat.{lt-div-mul-add}
-use borrow.Author.Tests.{lt-ltb, le-ltb}
 use Rattle.track_paper.specs.Paper.{frame_count}
 
 pub lt_or_le : (m n : ℕ) → (m < n) ⊎ (n ≤ m)

@@ -1,7 +1,6 @@
 -- Laws of a delivery on paper: what each test says of its number, what the answer and the samples are by it, and how many samples are held.
+use Rattle.std.proofs.Common.{sym, ap, ◌∙◌, ⊎_elim, arith, length-drop, eq-eqb, ne_eqb, lt-ltb, le-ltb}
 use Rattle.std.specs.Prelude.{Ok, Err, ℕ, ◌+◌, ◌-◌, ◌*◌, ◌≤◌, ◌<◌, ◌≡◌, List, ◌++◌, ℤ, length}
-use Rattle.std.proofs.Common.{sym, ap, ◌∙◌, ⊎_elim, arith, length-drop}
-use borrow.Author.Tests.{eq-eqb, ne_eqb, lt-ltb, le-ltb}
 use Rattle.refusals.specs.Refusals.{refusal_number}
 use Rattle.refusals.specs.RefusalsLaws.{refused_positive}
 use Rattle.pitch_settings.specs.declared.Settings.{Settings}

@@ -1,7 +1,7 @@
 -- What each test says of `delivery_refusal`, and what is known of a delivery that is not refused.
+use Rattle.std.proofs.Common.{sym, ◌∙◌, ⊎_elim, arith, eq-eqb, ne_eqb, lt-ltb, le-ltb, le-leb}
 use Rattle.std.specs.Prelude.{ℕ, ◌+◌, ◌*◌, ◌/◌, ◌≤◌, ◌<◌, ◌≡◌, false, ltb, leb, ℤ}
-use Rattle.std.proofs.Common.{sym, ◌∙◌, ⊎_elim, arith}
-use borrow.Author.Tests.{eq-eqb, ne_eqb, lt-ltb, le-ltb, le-leb, lt-leb}
+use Rattle.std.proofs.lemmas.Bool.{lt-leb}
 use Rattle.pitch_settings.specs.declared.Settings.{Settings}
 use Rattle.pitch_settings.specs.Settings.{frame_length, settings_no}
 use Rattle.track_settings.specs.declared.TrackSettings.{TrackSettings}

@@ -52,7 +52,7 @@ impl SecondThreshold {
         }
     }
 
-    // The second threshold of a row, by the type of the signal before it.
+    // The second threshold of a row, by the type of the signal before it: any number, as a track's state can hold any.
     fn of_row(self, signal_type: i32) -> i32
         ensures { result ≡ row_threshold self signal_type }
     {
@@ -62,7 +62,7 @@ impl SecondThreshold {
         }
     }
 
-    // Refusal 11 where the threshold comes from the speech and one of its four numbers leaves its range.
+    // Refusal 11 where the threshold comes from the speech and one of its four numbers leaves its range. The type is any number, since it is judged here.
     fn check(self, signal_type: i32) -> Result<(), Refusal>
         ensures { number_told result ≡ second_no self signal_type }
     {
@@ -95,7 +95,7 @@ impl TrackSettings {
         self.with_threshold(self.thres2.stored())
     }
 
-    // The settings with which a row's frame is analysed, by the type of the signal before it (0 none, 1 unvoiced, 2 voiced).
+    // The settings with which a row's frame is analysed, by the type of the signal before it (0 none, 1 unvoiced, 2 voiced): any number, as a track's state can hold any.
     #[tactic(auto, unfolding(crate::specs::TrackSettings::row_settings))]
     pub fn of_row(self, signal_type: i32) -> Settings
         ensures { result ≡ row_settings self signal_type }
@@ -104,6 +104,7 @@ impl TrackSettings {
     }
 
     // The settings as ones with which a track is analysed, with this type of the signal before its next row; or the refusal: 1, 2, 3, then 11.
+    // The type is any number, since it is judged here.
     #[tactic(auto, unfolding(crate::specs::TrackSettings::track_settings_no))]
     pub fn analysed(self, signal_type: i32) -> Result<AnalysedTrack, Refusal>
         ensures number { number_told result ≡ track_settings_no self signal_type }
@@ -125,7 +126,7 @@ impl AnalysedTrack {
         }
     }
 
-    // The settings of a row's frame, by the type of the signal before it.
+    // The settings of a row's frame, by the type of the signal before it: any number, as a track's state can hold any.
     #[tactic(auto, using(crate::specs::TrackSettingsLaws::row_no))]
     pub fn of_row(self, signal_type: i32) -> Analysed
         ensures { result.settings ≡ row_settings self.settings signal_type }

@@ -1,10 +1,5 @@
 -- `pitch_export::pitch_frame` meets its contract.
-use mathlib.Core.Path.{◌≡◌, sym, ap, ◌∙◌}
-use mathlib.Core.List.{List}
-use Prim.Native.Nat.{ℕ}
-use lib.IntN.{ℤ}
-use mir.Syntax.{w32}
-use mir.Val.{SFits, to_z, of_z}
+use Rattle.std.proofs.Common.{◌≡◌, sym, ap, ◌∙◌, List, ℤ, w32, SFits, to_z, of_z}
 use Rattle.std.specs.Prelude.{Result, ℕ}
 use Rattle.zint.specs.ReadLaws.{r_var}
 use Rattle.silk_pitch_analysis.specs.declared.Verdict.{Verdict}

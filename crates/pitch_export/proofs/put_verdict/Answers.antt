@@ -1,8 +1,5 @@
 -- `pitch_export::put_verdict` meets its contract.
-use mathlib.Core.Path.{◌≡◌, sym, ap, ◌∙◌}
-use lib.IntN.{pos}
-use mir.Syntax.{w32}
-use mir.Val.{to_z, of_z}
+use Rattle.std.proofs.Common.{◌≡◌, sym, ap, ◌∙◌, pos, w32, to_z, of_z}
 use Rattle.zint.specs.RuleLaws.{zneeds}
 use Rattle.silk_pitch_analysis.specs.Frame.{verdict_numbers}
 use Rattle.pitch_export.specs.Export.{lent_numbers}

@@ -1,7 +1,5 @@
 -- `silk_pitch_analysis::voiced` meets its contract.
-use native.Mathlib.Omega.{arith}
-use Prim.Native.Nat.{◌*◌}
-use mir.Syntax.{w32}
+use Rattle.std.proofs.Common.{arith, ◌*◌, w32}
 use Rattle.zint.specs.DiffLaws.{n, ◌⊖◌, sfits_by}
 use Rattle.zint.specs.ReadLaws.{r_nat, r_var, r_sub, f_sub}
 use Rattle.silk_pitch_analysis.specs.declared.Verdict.TheVariants.{Voiced}

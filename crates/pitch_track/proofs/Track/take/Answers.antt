@@ -1,64 +1,13 @@
 -- `Track::take` meets its contract: a refusal is the first case of `deliver_call`, and any other delivery the second.
-use Rattle.std.specs.Prelude.{◌≡◌, refl, Result, Err, ℕ, ◌+◌, ◌-◌, ◌*◌, ◌≤◌, List, ◌++◌, ℤ, length, take, drop}
-use Rattle.std.proofs.Common.{w32, SFits, sym, ap, ◌∙◌, rules, arith, length-append}
-use Rattle.std.proofs.Math.Seq.{length-take-le}
+use Rattle.std.specs.Prelude.{◌≡◌, Result, Err, ℕ, List, ℤ}
+use Rattle.std.proofs.Common.{w32, SFits, sym, ap, ◌∙◌, rules}
 use Rattle.zint.specs.ReadLaws.{r_var}
 use Rattle.refusals.specs.Refusals.{refusal_number, told}
 use Rattle.refusals.specs.RefusalsLaws.{refused_positive}
-use Rattle.pitch_settings.specs.declared.Settings.{Settings}
-use Rattle.pitch_settings.specs.Settings.{frame_length, longest_frame, hop_length}
-use Rattle.pitch_settings.specs.SettingsLaws.{Accepted as Sized, accepted_settings}
-use Rattle.pitch_table.specs.Row.{row_size}
-use Rattle.track_settings.specs.declared.TrackSettings.{TrackSettings}
-use Rattle.track_settings.specs.TrackSettings.{stored_settings}
-use Rattle.track_paper.specs.Paper.{frame_count, F, previous, paper_numbers, track_limit}
-use Rattle.track_paper.specs.FramesLaws.{rest, starts}
-use Rattle.track_paper.specs.PaperLaws.{limit_refuses}
-use Rattle.track_refusal.specs.RefusalLaws.{Passed, passed}
 use Rattle.pitch_track.specs.declared.Track.{Track}
-use Rattle.pitch_track.specs.Step.{padded, pending, delivery_no, DeliveryOutcome, accepted_delivery}
-use Rattle.pitch_track.proofs.Deliver.{refuses, accepts, made, kept}
+use Rattle.pitch_track.specs.Step.{delivery_no, DeliveryOutcome}
+use Rattle.pitch_track.proofs.Deliver.{refuses, accepts}
 use Rattle.pitch_track.proofs.Track.take.Goals as goal
-
--- the delivery is not refused: what is known of its numbers, of the new frames, and of where what follows them starts
-module _ (tr : Track) (table given : List ℤ) (number : 0 ≡ delivery_no tr table given) where
-  abbrev s : Settings
-  s = stored_settings tr.settings
-
-  abbrev all : ℕ
-  all = tr.count + length given
-
-  pass : Passed track_limit (stored_settings tr.settings) tr.frames tr.count (length given) (length table)
-  pass = passed track_limit tr.settings tr.prev.signal _ _ _ _ limit_refuses (sym number)
-
-  sized : Sized (stored_settings tr.settings)
-  sized = accepted_settings _ pass.ok
-
-  held_fits : length tr.held ≡ longest_frame → tr.count ≤ length tr.held
-  held_fits e = omega (arith, pass.few, sized.small)
-
-  length_held : length tr.held ≡ longest_frame → length (take tr.count tr.held) ≡ tr.count
-  length_held e = length-take-le tr.count tr.held (held_fits e)
-
-  from_fits : (f : ℕ) → f ≡ F (stored_settings tr.settings) (tr.count + length given) * hop_length (stored_settings tr.settings) → f ≤ tr.count + length given
-  from_fits f e = omega (arith, e, starts (frame_length s) (hop_length s) sized.some sized.within all)
-
-  left_fits : (f : ℕ) → f ≡ F (stored_settings tr.settings) (tr.count + length given) * hop_length (stored_settings tr.settings) → tr.count + length given - f ≤ longest_frame
-  left_fits f e = omega (arith, e, rest (frame_length s) (hop_length s) sized.some sized.within all, sized.small)
-
--- the new frames and the samples between their starts, by the settings that were judged
-module _ (k : TrackSettings) {s : Settings} {a : TrackSettings} {len hop : ℕ} (sizes : (len ≡ frame_length s) × (hop ≡ hop_length s)) (stores : s ≡ stored_settings a) (same : a ≡ k) where
-  stored : s ≡ stored_settings k
-  stored = stores ∙ ap stored_settings same
-
-  hop-is : hop ≡ hop_length (stored_settings k)
-  hop-is = sizes.1 ∙ ap hop_length stored
-
-  new-is : (n new : ℕ) → new ≡ frame_count len hop n → new ≡ F (stored_settings k) n
-  new-is n new e = e ∙ (λ i. frame_count (sizes.0 i) (sizes.1 i) n) ∙ ap (λ (v : Settings). F v n) stored
-
-  from-is : (n new : ℕ) → new ≡ frame_count len hop n → new * hop ≡ F (stored_settings k) n * hop_length (stored_settings k)
-  from-is n new e = λ i. new-is n new e i * hop-is i
 
 abbrev outcome : Result ℕ ℕ → Track → List ℤ → DeliveryOutcome
 outcome a tr t = record { delivered = record { answer = a; track = tr }; table = t }
@@ -71,115 +20,16 @@ returns-in_err-k c =
     let e : refusal_number c.in_err-k.field-0.0 ≡ delivery_no a.self.now a.table.now a.samples.now = simp ((r_var f).val, c.track_limit.ensures) at c.in_err-k.ensures.number in
     ap (λ (r : Result ℕ ℕ). outcome r a.self.now a.table.now) (said ∙ ap Err e) ∙ sym (refuses a.self.now a.table.now a.samples.now (refused_positive c.in_err-k.field-0.0 e))
 
-pub overflow_add-n : goal.overflow_add-n
-overflow_add-n c =
+pub advance-requires : goal.advance-requires
+advance-requires c =
     let a = c.args in
     let f : SFits w32 a.self.now.prev.signal = search rules in
     let z : 0 ≡ delivery_no a.self.now a.table.now a.samples.now = simp ((r_var f).val, c.track_limit.ensures) at c.in_ok-k.ensures.number in
-    omega (arith, (pass a.self.now a.table.now a.samples.now z).few, (sized a.self.now a.table.now a.samples.now z).small, c.well_formed)
-
-pub overflow_mul-from : goal.overflow_mul-from
-overflow_mul-from c =
-    let a = c.args in
-    let tr = a.self.now in
-    let f : SFits w32 a.self.now.prev.signal = search rules in
-    let z : 0 ≡ delivery_no a.self.now a.table.now a.samples.now = simp ((r_var f).val, c.track_limit.ensures) at c.in_ok-k.ensures.number in
-    let from = from-is tr.settings c.from-framing.ensures c.stored.ensures c.in_ok-k.ensures.settings (tr.count + length a.samples.now) c.frames_in-new.result c.frames_in-new.ensures in
-    omega (arith, from_fits tr a.table.now a.samples.now z _ from, (pass tr a.table.now a.samples.now z).few, (sized tr a.table.now a.samples.now z).small, c.well_formed)
-
-pub slice_bounds-held-end : goal.slice_bounds-held-end
-slice_bounds-held-end c =
-    let a = c.args in
-    let f : SFits w32 a.self.now.prev.signal = search rules in
-    let full : length a.self.now.held ≡ longest_frame = search rules in
-    let z : 0 ≡ delivery_no a.self.now a.table.now a.samples.now = simp ((r_var f).val, c.track_limit.ensures) at c.in_ok-k.ensures.number in
-    held_fits a.self.now a.table.now a.samples.now z full
-
-pub slice_bounds-pending-end : goal.slice_bounds-pending-end
-slice_bounds-pending-end c =
-    let a = c.args in
-    let f : SFits w32 a.self.now.prev.signal = search rules in
-    let full : length a.self.now.held ≡ longest_frame = search rules in
-    let z : 0 ≡ delivery_no a.self.now a.table.now a.samples.now = simp ((r_var f).val, c.track_limit.ensures) at c.in_ok-k.ensures.number in
-    sym (length_held a.self.now a.table.now a.samples.now z full)
-
-pub put_rows-prev-requires : goal.put_rows-prev-requires
-put_rows-prev-requires c =
-    let a = c.args in
-    let tr = a.self.now in
-    let f : SFits w32 a.self.now.prev.signal = search rules in
-    let full : length a.self.now.held ≡ longest_frame = search rules in
-    let z : 0 ≡ delivery_no a.self.now a.table.now a.samples.now = simp ((r_var f).val, c.track_limit.ensures) at c.in_ok-k.ensures.number in
-    let k = c.in_ok-k.k.settings in
-    let n = tr.count + length a.samples.now in
-    let own = new-is k c.from-framing.ensures c.stored.ensures refl n c.frames_in-new.result c.frames_in-new.ensures in
-    let new = new-is tr.settings c.from-framing.ensures c.stored.ensures c.in_ok-k.ensures.settings n c.frames_in-new.result c.frames_in-new.ensures in
-    let p = pass tr a.table.now a.samples.now z in
-    (own ∙ ap (λ (m : ℕ). F (stored_settings k) (m + length a.samples.now)) (sym (length_held tr a.table.now a.samples.now z full)), λ h. omega (arith, new, p.room (omega (arith, new))))
-
-pub overflow_sub-n : goal.overflow_sub-n
-overflow_sub-n c =
-    let a = c.args in
-    let tr = a.self.now in
-    let f : SFits w32 a.self.now.prev.signal = search rules in
-    let z : 0 ≡ delivery_no a.self.now a.table.now a.samples.now = simp ((r_var f).val, c.track_limit.ensures) at c.in_ok-k.ensures.number in
-    let from = from-is tr.settings c.from-framing.ensures c.stored.ensures c.in_ok-k.ensures.settings (tr.count + length a.samples.now) c.frames_in-new.result c.frames_in-new.ensures in
-    from_fits tr a.table.now a.samples.now z _ from
-
-pub window-rest-requires : goal.window-rest-requires
-window-rest-requires c =
-    let a = c.args in
-    let tr = a.self.now in
-    let f : SFits w32 a.self.now.prev.signal = search rules in
-    let full : length a.self.now.held ≡ longest_frame = search rules in
-    let z : 0 ≡ delivery_no a.self.now a.table.now a.samples.now = simp ((r_var f).val, c.track_limit.ensures) at c.in_ok-k.ensures.number in
-    let from = from-is tr.settings c.from-framing.ensures c.stored.ensures c.in_ok-k.ensures.settings (tr.count + length a.samples.now) c.frames_in-new.result c.frames_in-new.ensures in
-    (omega (arith, from_fits tr a.table.now a.samples.now z _ from, length_held tr a.table.now a.samples.now z full), left_fits tr a.table.now a.samples.now z _ from)
-
-pub overflow_add-self : goal.overflow_add-self
-overflow_add-self c =
-    let a = c.args in
-    let tr = a.self.now in
-    let f : SFits w32 a.self.now.prev.signal = search rules in
-    let z : 0 ≡ delivery_no a.self.now a.table.now a.samples.now = simp ((r_var f).val, c.track_limit.ensures) at c.in_ok-k.ensures.number in
-    let new = new-is tr.settings c.from-framing.ensures c.stored.ensures c.in_ok-k.ensures.settings (tr.count + length a.samples.now) c.frames_in-new.result c.frames_in-new.ensures in
-    omega (arith, new, (pass tr a.table.now a.samples.now z).fits)
-
-pub overflow_sub-self : goal.overflow_sub-self
-overflow_sub-self c =
-    let a = c.args in
-    let tr = a.self.now in
-    let f : SFits w32 a.self.now.prev.signal = search rules in
-    let z : 0 ≡ delivery_no a.self.now a.table.now a.samples.now = simp ((r_var f).val, c.track_limit.ensures) at c.in_ok-k.ensures.number in
-    let from = from-is tr.settings c.from-framing.ensures c.stored.ensures c.in_ok-k.ensures.settings (tr.count + length a.samples.now) c.frames_in-new.result c.frames_in-new.ensures in
-    from_fits tr a.table.now a.samples.now z _ from
+    record { settings = c.in_ok-k.ensures.settings; number = sym z }
 
 pub returns : goal.returns
-unfolding pending
 returns c =
     let a = c.args in
-    let tr = a.self.now in
-    let t = a.table.now in
-    let d = a.samples.now in
     let f : SFits w32 a.self.now.prev.signal = search rules in
-    let full : length a.self.now.held ≡ longest_frame = search rules in
     let z : 0 ≡ delivery_no a.self.now a.table.now a.samples.now = simp ((r_var f).val, c.track_limit.ensures) at c.in_ok-k.ensures.number in
-    let same = c.in_ok-k.ensures.settings in
-    let k = c.frames_in-new.result in
-    let hop = c.from-framing.result.hop in
-    let n = tr.count + length d in
-    let new = new-is tr.settings c.from-framing.ensures c.stored.ensures same n k c.frames_in-new.ensures in
-    let from = from-is tr.settings c.from-framing.ensures c.stored.ensures same n k c.frames_in-new.ensures in
-    let h = hop-is tr.settings c.from-framing.ensures c.stored.ensures same in
-    let x = take tr.count tr.held ++ d in
-    let left = tr.count + length d - k * hop in
-    let size : length (take tr.count tr.held ++ d) ≡ k * hop + (tr.count + length d - k * hop) =
-    omega (arith, length-append (take tr.count tr.held) d, length_held tr t d z full, from_fits tr t d z _ from) in
-    made tr t d k (tr.frames + k) c.window-rest.result left c.put_rows-prev.result c.put_rows-prev.new.table
-    refl
-    (c.window-rest.ensures ∙ ap padded (kept x (k * hop) left size ∙ ap (λ (m : ℕ). drop (k * m) x) h))
-    (ap (λ (m : ℕ). tr.count + length d - k * m) h)
-    (c.put_rows-prev.ensures.value ∙ ap (λ (v : TrackSettings). previous v x tr.prev k) same)
-    (c.put_rows-prev.ensures.table_after ∙ ap (λ (v : TrackSettings). take (tr.frames * row_size) t ++ paper_numbers v x tr.prev k ++ drop ((tr.frames + k) * row_size) t) same)
-    ∙ ap (accepted_delivery tr t d) new
-    ∙ sym (accepts tr t d (sym z))
+    c.advance.ensures ∙ sym (accepts a.self.now a.table.now a.samples.now (sym z))
