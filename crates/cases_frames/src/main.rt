@@ -3,11 +3,13 @@
 // (2 bytes each), then the source's row: verdict, lag index, contour, correlation and four lags (4 bytes each). All are little-endian.
 #![tactic(auto)]
 
-ghost use Rattle.std.specs.Prelude.{◌≤◌};
+ghost use Rattle.std.specs.Prelude.{◌≤◌, ◌*◌, length};
+ghost use Rattle.pitch_settings.specs.Settings.{longest_frame};
 ghost use Rattle.std.proofs.Common.{rules};
 
 use cases_io::{Records, byte_at, i32_at, load, nth, read_full, replay_input, report, same, skip};
-use pitch_settings::Settings;
+use pitch_settings::{LONGEST_FRAME, Settings};
+use rooms::room;
 use silk_pitch_analysis::{Verdict, silk_pitch_analysis_core};
 use std::io;
 use std::io::Read;
@@ -15,44 +17,51 @@ use std::io::Read;
 // What the lag places hold before the call; no lag is negative.
 const UNTOUCHED: i32 = -7;
 
-fn verdict_agrees(row: &[u8], at: usize, v: Verdict) -> bool {
+// The bytes of a frame's samples at most, of a row, and of a row before its lags.
+const SAMPLE_BYTES: usize = 2 * LONGEST_FRAME;
+
+const ROW_BYTES: usize = 32;
+
+const LAGS_AT: usize = 16;
+
+fn verdict_agrees(row: &[u8], v: Verdict) -> bool {
     match v {
         Verdict::Voiced {
             index,
             contour,
             correlation,
-        } => same(row, at, &[0, index, contour, correlation]),
-        Verdict::Unvoiced => same(row, at, &[1, 0, 0, 0]),
-        Verdict::ZeroDivisor => same(row, at, &[2, 0, 0, 0]),
+        } => same(row, 0, &[0, index, contour, correlation]),
+        Verdict::Unvoiced => same(row, 0, &[1, 0, 0, 0]),
+        Verdict::ZeroDivisor => same(row, 0, &[2, 0, 0, 0]),
     }
 }
 
-// Whether the lag place of number k is as the row's lags, from `at` on, say: past the subframes the row has 0, and the place is untouched.
-fn lag_agrees(row: &[u8], at: usize, nb: usize, k: usize, lag: i32) -> bool {
-    let expected = nth(row, at, k);
+// Whether the lag place of number k is as the row says: past the subframes the row has 0, and the place is untouched.
+fn lag_agrees(row: &[u8], nb: usize, k: usize, lag: i32) -> bool {
+    let expected = nth(row, LAGS_AT, k);
     if k < nb {
         return lag == expected;
     }
     expected == 0 && lag == UNTOUCHED
 }
 
-// Whether the call answers these samples as the row after them says.
-fn agrees(body: &[u8], n: usize, s: Settings, prev_lag: i32, prev_corr: i32) -> bool
-    requires { n ≤ 640 }
+// Whether the call answers these samples as the row says.
+fn agrees(samples: &[u8], row: &[u8], s: Settings, prev_lag: i32, prev_corr: i32) -> bool
+    requires { length samples.now ≤ 2 * longest_frame }
 {
-    let row = 2 * n;
     let nb = s.nb;
-    let mut frame = [0i16; 640];
+    let mut frame = room::<i16, LONGEST_FRAME>(0);
     let mut lags = [UNTOUCHED; 4];
-    load(body, 0, &mut frame);
+    load(samples, 0, &mut frame);
+    let n = samples.len() / 2;
     let Ok(v) = silk_pitch_analysis_core(&frame[..n], &mut lags, s, prev_lag, prev_corr) else {
         return false;
     };
-    verdict_agrees(body, row, v)
+    verdict_agrees(row, v)
         && lags
             .iter()
             .enumerate()
-            .all(|(k, lag)| lag_agrees(body, row + 16, nb, k, *lag))
+            .all(|(k, lag)| lag_agrees(row, nb, k, *lag))
 }
 
 // The settings of a record's head.
@@ -68,7 +77,7 @@ fn settings_of(head: &[u8]) -> Settings {
 
 // The samples of a frame with these settings, or none where the call refuses them.
 fn samples_of(s: Settings) -> usize
-    ensures { result ≤ 640 }
+    ensures { result ≤ longest_frame }
 {
     match s.analysed() {
         Ok(analysed) => analysed.frame_length(),
@@ -90,11 +99,12 @@ impl Records<20, 30> for Frames {
     // A record that is cut short does not agree.
     fn agrees<R: Read>(input: &mut R, head: &[u8; 20]) -> io::Result<bool> {
         let s = settings_of(head);
-        let n = samples_of(s);
-        let size = 2 * n + 32;
-        let mut body = [0u8; 1312];
-        let got = read_full(input, &mut body[..size])?;
-        Ok(got == size && agrees(&body, n, s, i32_at(head, 12), i32_at(head, 16)))
+        let n = 2 * samples_of(s);
+        let mut samples = room::<u8, SAMPLE_BYTES>(0);
+        let mut row = room::<u8, ROW_BYTES>(0);
+        let got = read_full(input, &mut samples[..n])?;
+        let whole = got == n && read_full(input, &mut row)? == ROW_BYTES;
+        Ok(whole && agrees(&samples[..n], &row, s, i32_at(head, 12), i32_at(head, 16)))
     }
 
     ghost few = { Prim.search rules };

@@ -14,7 +14,33 @@ use silk_resampler::{
 use std::io;
 use std::io::Write;
 
-fn down2_agrees(case: &[u8], n: usize) -> bool {
+// The decimators, which a case's kind names.
+#[derive(Clone, Copy, PartialEq)]
+enum Decimator {
+    Down2,
+    PrivateAr2,
+    Down2By3,
+}
+
+// The decimator of a case, or none where no decimator has its kind. Kinds and numbers of samples are below 65536, so their first two bytes tell them.
+fn decimator_of(case: &[u8]) -> Option<Decimator> {
+    match u16_at(case, 0) {
+        0 => Some(Decimator::Down2),
+        1 => Some(Decimator::PrivateAr2),
+        2 => Some(Decimator::Down2By3),
+        _ => None,
+    }
+}
+
+// The number of samples of a case.
+fn samples(case: &[u8]) -> usize
+    ensures { result < 65536 }
+{
+    u16_at(case, 4) as usize
+}
+
+fn down2_agrees(case: &[u8]) -> bool {
+    let n = samples(case);
     if n > 640 {
         return false;
     }
@@ -29,7 +55,8 @@ fn down2_agrees(case: &[u8], n: usize) -> bool {
     same(case, outputs, &out[..n / 2]) && same(case, after, &s)
 }
 
-fn private_ar2_agrees(case: &[u8], n: usize) -> bool {
+fn private_ar2_agrees(case: &[u8]) -> bool {
+    let n = samples(case);
     if n > 480 {
         return false;
     }
@@ -46,7 +73,8 @@ fn private_ar2_agrees(case: &[u8], n: usize) -> bool {
     same(case, outputs, &out[..n]) && same(case, after, &s)
 }
 
-fn down2_3_agrees(case: &[u8], n: usize) -> bool {
+fn down2_3_agrees(case: &[u8]) -> bool {
+    let n = samples(case);
     if n > 480 {
         return false;
     }
@@ -61,36 +89,35 @@ fn down2_3_agrees(case: &[u8], n: usize) -> bool {
     same(case, outputs, &out[..2 * (n / 3)]) && same(case, after, &s)
 }
 
-// The number of samples of a case. Kinds and numbers of samples are below 65536, so their first two bytes tell them.
-fn samples(case: &[u8]) -> usize
-    ensures { result < 65536 }
-{
-    u16_at(case, 4) as usize
+// Whether the decimator answers the case as the source does.
+fn agrees(decimator: Decimator, case: &[u8]) -> bool {
+    match decimator {
+        Decimator::Down2 => down2_agrees(case),
+        Decimator::PrivateAr2 => private_ar2_agrees(case),
+        Decimator::Down2By3 => down2_3_agrees(case),
+    }
 }
 
-// The bytes of a case.
+// The bytes of a case; where no decimator has its kind, as many as for the last.
 fn size(case: &[u8]) -> usize {
     let n = samples(case);
-    match u16_at(case, 0) {
-        0 => 24 + 2 * n + 2 * (n / 2),
-        1 => 28 + 6 * n,
+    match decimator_of(case) {
+        Some(Decimator::Down2) => 24 + 2 * n + 2 * (n / 2),
+        Some(Decimator::PrivateAr2) => 28 + 6 * n,
         _ => 56 + 2 * n + 4 * (n / 3),
     }
 }
 
-// Counts the cases of one kind and prints the line.
-fn replay_kind<W: Write, A: Fn(&[u8], usize) -> bool>(
+// Counts the cases of one decimator and prints the line.
+fn replay_decimator<W: Write>(
     output: &mut W,
-    name: &[u8],
     list: &[u8],
-    kind: u16,
-    agrees: A,
-) -> io::Result<()>
-    requires { A.IsAlwaysCallable agrees }
-{
+    decimator: Decimator,
+    name: &[u8],
+) -> io::Result<()> {
     replay(output, name, list, size, |case| {
-        if u16_at(case, 0) == kind {
-            Some(agrees(case, samples(case)))
+        if decimator_of(case) == Some(decimator) {
+            Some(agrees(decimator, case))
         } else {
             None
         }
@@ -102,19 +129,17 @@ fn main(rt: HostRuntime) -> io::Result<()> {
     let n = read_full(&mut rt.stdin(), &mut bytes)?;
     let list = &bytes[..n];
     let mut output = rt.stdout();
-    replay_kind(&mut output, b"silk_resampler_down2", list, 0, down2_agrees)?;
-    replay_kind(
+    replay_decimator(&mut output, list, Decimator::Down2, b"silk_resampler_down2")?;
+    replay_decimator(
         &mut output,
+        list,
+        Decimator::PrivateAr2,
         b"silk_resampler_private_ar2",
-        list,
-        1,
-        private_ar2_agrees,
     )?;
-    replay_kind(
+    replay_decimator(
         &mut output,
-        b"silk_resampler_down2_3",
         list,
-        2,
-        down2_3_agrees,
+        Decimator::Down2By3,
+        b"silk_resampler_down2_3",
     )
 }

@@ -47,16 +47,6 @@ fn inner_prod_agrees(case: &[u8]) -> bool {
     silk_inner_prod_aligned(&x, &y, n) == i32_at(case, 8 + 4 * n)
 }
 
-// The n samples from `at` on, and zeros after them.
-fn padded(case: &[u8], at: usize, n: usize) -> [i16; 210]
-    requires { n ≤ 210 }
-    ensures { 210 ≡ length result }
-{
-    let mut y = [0i16; 210];
-    load(case, at, &mut y[..n]);
-    y
-}
-
 fn pitch_xcorr_agrees(case: &[u8]) -> bool {
     let n = number(case, 4);
     let lags = number(case, 8);
@@ -71,47 +61,64 @@ fn pitch_xcorr_agrees(case: &[u8]) -> bool {
         return false;
     }
     let mut x = [0i16; 80];
+    let mut y = [0i16; 210];
     let mut sums = [0i32; 131];
     let samples = 16 + 2 * n;
     load(case, 16, &mut x);
-    let y = padded(case, samples, y_len);
+    load(case, samples, &mut y[..y_len]);
     silk_pitch_xcorr(&x, &y, &mut sums, n, lags);
     same(case, samples + 2 * y_len, &sums[..lags])
 }
 
-// The group of a case: its kind, or 3 where y is too short for a lag.
-fn group_of(case: &[u8]) -> usize {
-    let kind = number(case, 0);
-    if kind == 2 && number(case, 4) + number(case, 8) > number(case, 12) + 1 {
-        3
-    } else {
-        kind
+// The groups of cases: one for each kernel, and one where y is too short for a lag.
+#[derive(Clone, Copy, PartialEq)]
+enum Group {
+    SumSqrShift,
+    InnerProd,
+    PitchXcorr,
+    PaddedXcorr,
+}
+
+// The group of a case, or none where no kernel has its kind. Kind 3 is counted with those of kind 2 whose y is too short for a lag.
+fn group_of(case: &[u8]) -> Option<Group> {
+    match number(case, 0) {
+        0 => Some(Group::SumSqrShift),
+        1 => Some(Group::InnerProd),
+        2 if number(case, 4) + number(case, 8) <= number(case, 12) + 1 => Some(Group::PitchXcorr),
+        2 | 3 => Some(Group::PaddedXcorr),
+        _ => None,
     }
 }
 
-// The bytes of a case.
+// Whether the kernel of this group answers the case as the source does.
+fn agrees(group: Group, case: &[u8]) -> bool {
+    match group {
+        Group::SumSqrShift => sum_sqr_shift_agrees(case),
+        Group::InnerProd => inner_prod_agrees(case),
+        Group::PitchXcorr | Group::PaddedXcorr => pitch_xcorr_agrees(case),
+    }
+}
+
+// The bytes of a case; where no kernel has its kind, as many as for the last.
 fn size(case: &[u8]) -> usize {
     let n = number(case, 4);
-    match number(case, 0) {
-        0 => 16 + 2 * n,
-        1 => 12 + 4 * n,
+    match group_of(case) {
+        Some(Group::SumSqrShift) => 16 + 2 * n,
+        Some(Group::InnerProd) => 12 + 4 * n,
         _ => 16 + 2 * n + 4 * number(case, 8) + 2 * number(case, 12),
     }
 }
 
 // Replays the cases of one group.
-fn replay_group<W: Write, A: Fn(&[u8]) -> bool>(
+fn replay_group<W: Write>(
     output: &mut W,
     list: &[u8],
-    group: usize,
+    group: Group,
     name: &[u8],
-    agrees: A,
-) -> io::Result<()>
-    requires { A.IsAlwaysCallable agrees }
-{
+) -> io::Result<()> {
     replay(output, name, list, size, |case| {
-        if group_of(case) == group {
-            Some(agrees(case))
+        if group_of(case) == Some(group) {
+            Some(agrees(group, case))
         } else {
             None
         }
@@ -124,26 +131,13 @@ fn main(rt: HostRuntime) -> io::Result<()> {
     let list = &bytes[..n];
     let mut output = rt.stdout();
     let padded = b"silk_pitch_xcorr, y followed by zeros";
+    replay_group(&mut output, list, Group::SumSqrShift, b"silk_sum_sqr_shift")?;
     replay_group(
         &mut output,
         list,
-        0,
-        b"silk_sum_sqr_shift",
-        sum_sqr_shift_agrees,
-    )?;
-    replay_group(
-        &mut output,
-        list,
-        1,
+        Group::InnerProd,
         b"silk_inner_prod_aligned",
-        inner_prod_agrees,
     )?;
-    replay_group(
-        &mut output,
-        list,
-        2,
-        b"silk_pitch_xcorr",
-        pitch_xcorr_agrees,
-    )?;
-    replay_group(&mut output, list, 3, padded, pitch_xcorr_agrees)
+    replay_group(&mut output, list, Group::PitchXcorr, b"silk_pitch_xcorr")?;
+    replay_group(&mut output, list, Group::PaddedXcorr, padded)
 }

@@ -5,15 +5,10 @@
 ghost use Rattle.std.specs.Prelude.{◌≡◌, ◌+◌, ◌*◌};
 ghost use Rattle.cases_io.specs.Little.{u32_at};
 
-use cases_io::{LIST_BYTES, load, read_full, replay, same, skip, u32_at};
+use cases_io::{LIST_BYTES, load, read_full, replay, same, u32_at};
 use rooms::room;
 use silk_sort::silk_insertion_sort_decreasing_int16;
 use std::io;
-
-// Whether idx are the numbers of 4 bytes each from `at` on.
-fn same_indices(case: &[u8], at: usize, idx: &[usize]) -> bool {
-    idx.iter().enumerate().all(|(i, x)| *x == u32_at(case, skip(case, at, i.saturating_mul(4))))
-}
 
 // Whether the sort answers the case, of l values and k places, as the source does. No case has more than 72 values.
 fn agrees(case: &[u8]) -> bool {
@@ -34,7 +29,7 @@ fn agrees(case: &[u8]) -> bool {
     let mut idx = [0usize; 72];
     load(case, 8, &mut a);
     silk_insertion_sort_decreasing_int16(&mut a, &mut idx, l, k);
-    same_indices(case, indices, &idx[..k]) && same(case, after, &a[..l])
+    same(case, indices, &idx[..k]) && same(case, after, &a[..l])
 }
 
 // The bytes of a case of l values and k places.

@@ -16,6 +16,24 @@ use speech_threshold::Speech;
 use std::io;
 use std::io::Write;
 
+// The kinds of cases: all four numbers in their ranges, one out of its range, and numbers at random.
+#[derive(Clone, Copy, PartialEq)]
+enum Kind {
+    InRange,
+    OutOfRange,
+    Random,
+}
+
+// The kind of a case, or none where it is of no kind.
+fn kind_of(case: &[u8]) -> Option<Kind> {
+    match i32_at(case, 0) {
+        0 => Some(Kind::InRange),
+        1 => Some(Kind::OutOfRange),
+        2 => Some(Kind::Random),
+        _ => None,
+    }
+}
+
 // Whether the answer is this number, with this threshold where the number is 0.
 fn says(answer: Result<i32, Refusal>, number: usize, threshold: i32) -> bool
     ensures { result ≡ true → threshold_answer_numbers (told answer) ≡ answer_numbers number (threshold ∷ []) }
@@ -43,14 +61,14 @@ fn agrees(case: &[u8]) -> bool
 }
 
 // Counts the cases of one kind and prints the line.
-fn replay_kind<W: Write>(output: &mut W, list: &[u8], kind: i32, name: &[u8]) -> io::Result<()> {
+fn replay_kind<W: Write>(output: &mut W, list: &[u8], kind: Kind, name: &[u8]) -> io::Result<()> {
     replay(
         output,
         name,
         list,
         |_| 28,
         |case| {
-            if i32_at(case, 0) == kind {
+            if kind_of(case) == Some(kind) {
                 Some(agrees(case))
             } else {
                 None
@@ -63,7 +81,8 @@ fn main(rt: HostRuntime) -> io::Result<()> {
     let mut bytes = room::<u8, LIST_BYTES>(0);
     let n = read_full(&mut rt.stdin(), &mut bytes)?;
     let mut output = rt.stdout();
-    replay_kind(&mut output, &bytes[..n], 0, b"in range:")?;
-    replay_kind(&mut output, &bytes[..n], 1, b"out of range:")?;
-    replay_kind(&mut output, &bytes[..n], 2, b"random:")
+    let list = &bytes[..n];
+    replay_kind(&mut output, list, Kind::InRange, b"in range:")?;
+    replay_kind(&mut output, list, Kind::OutOfRange, b"out of range:")?;
+    replay_kind(&mut output, list, Kind::Random, b"random:")
 }

@@ -15,8 +15,24 @@ use std::io::Read;
 mod deliveries;
 mod text;
 
+// What the body of a record holds: a text for an input with this head, or a list of deliveries.
+#[derive(Clone, Copy)]
+enum Body {
+    Text(Head),
+    Deliveries,
+}
+
+// What a record of this kind holds.
+fn body_of(kind: u8) -> Body {
+    match kind {
+        0..=7 => Body::Text(Head::Plain),
+        8..=27 => Body::Deliveries,
+        _ => Body::Text(Head::Options),
+    }
+}
+
 // Reads a body and tells whether the track agrees with it. A body that is cut short does not.
-fn record_agrees<R: Read>(input: &mut R, kind: usize, size: usize) -> io::Result<bool>
+fn record_agrees<R: Read>(input: &mut R, holds: Body, size: usize) -> io::Result<bool>
     requires { size ≤ 1048576 }
 {
     let mut body = room::<u8, LIST_BYTES>(0);
@@ -24,13 +40,10 @@ fn record_agrees<R: Read>(input: &mut R, kind: usize, size: usize) -> io::Result
     if got != size {
         return Ok(false);
     }
-    if kind < 8 {
-        return Ok(text::agrees(Head::Plain, &body, size));
+    match holds {
+        Body::Text(head) => Ok(text::agrees(head, &body, size)),
+        Body::Deliveries => Ok(deliveries::agrees(&body[..size])),
     }
-    if kind >= 28 {
-        return Ok(text::agrees(Head::Options, &body, size));
-    }
-    Ok(deliveries::agrees(&body, size))
 }
 
 struct Cases;
@@ -47,7 +60,7 @@ impl Records<5, 32> for Cases {
 
     fn agrees<R: Read>(input: &mut R, head: &[u8; 5]) -> io::Result<bool> {
         let size = u32_at(head, 1).min(1048576);
-        record_agrees(input, byte_at(head, 0) as usize, size)
+        record_agrees(input, body_of(byte_at(head, 0)), size)
     }
 
     ghost few = { Prim.search rules };

@@ -22,7 +22,8 @@ fn is_told(head: Head, input: &[u8], more: usize, told: &[u8]) -> bool
     &out[..r] == told
 }
 
-// Whether the text is the one that the body tells. The bytes after the body are 0, and so the input's zeros are among them; those past the program's room are only counted.
+// Whether the text is the one that the body tells. The bytes after the body are 0, and so the input's zeros are among them; those past the program's room are only counted. The size stands beside
+// the slice, which can't end with the body: the zeros after it are part of the input.
 pub fn agrees(head: Head, body: &[u8], size: usize) -> bool
     requires { (1048576 ≡ length body.now) × (size ≤ 1048576) }
     ensures { Tells result (TextAgrees head body.now size) }

@@ -1,7 +1,7 @@
 // What the programs do that take a recording: read it from standard input, and write what they make of it.
 #![tactic(auto)]
 
-ghost use Rattle.std.specs.Prelude.{◌≡◌, List, ◌++◌, ℕ, ◌<◌, ◌≤◌, take, length, IfSome, OnOk};
+ghost use Rattle.std.specs.Prelude.{◌≡◌, List, ◌++◌, ℕ, ◌^◌, ◌<◌, ◌≤◌, take, length, IfSome, OnOk};
 ghost use Rattle.std.specs.Io.KnownBytes.{Appends};
 ghost use Rattle.pitch_recording.specs.Recording.{recording_samples, recording_bytes, recording_numbers};
 ghost use Rattle.recording_head.specs.declared.Head.{Head};
@@ -13,12 +13,9 @@ use recording_io::{Failure, read_recording, write_output};
 use rooms::room;
 use std::io::{Read, Write};
 
-// What a program makes of a recording.
-pub trait RecordingProgram {
-    // the bytes that it makes at most
-    ghost longest: { ℕ };
-
-    // those that it makes of an input with this head
+// What a program makes of a recording: at most LONGEST bytes.
+pub trait RecordingProgram<const LONGEST: usize> {
+    // the bytes that it makes of an input with this head
     ghost made: { Head → List ℕ → List ℕ };
 
     // Puts them into the first bytes of `out`, for an input that begins with these bytes and has `more` after them; how many they are. Samples and rows are left in the rooms for them.
@@ -30,22 +27,22 @@ pub trait RecordingProgram {
         table: &mut [i32],
         out: &mut [u8],
     ) -> usize
-        requires { (0 < more → recording_bytes ≤ length input.now) × (recording_samples ≤ length samples.old) × (recording_numbers ≤ length table.old) × (longest ≤ length out.old) }
+        requires { (0 < more → recording_bytes ≤ length input.now) × (recording_samples ≤ length samples.old) × (recording_numbers ≤ length table.old) × (LONGEST ≤ length out.old) }
         ensures value { (rest : List ℕ) → length rest ≡ more → take result out.new ≡ made head (input.now ++ rest) }
-        ensures bound { result ≤ longest };
+        ensures bound { result ≤ LONGEST };
+
+    // as many as an array can have
+    ghost fits: { LONGEST < 2 ^ 63 };
 }
 
-// Writes what the program makes of the input, a recording with this head; `out` is room for it. Where a read fails it writes nothing; that, or a failed write, it says on standard error in the
-// program's name.
-pub fn run_program<P: RecordingProgram, R: Read, W: Write, E: Write>(
+// Writes what the program makes of the input, a recording with this head. Where a read fails it writes nothing; that, or a failed write, it says on standard error in the program's name.
+pub fn run_program<P: RecordingProgram<LONGEST>, const LONGEST: usize, R: Read, W: Write, E: Write>(
     input: &mut R,
     output: &mut W,
     errors: &mut E,
     name: &[u8],
     head: Head,
-    out: &mut [u8],
 ) -> Result<(), Failure>
-    requires { P.longest ≤ length out.old }
     ensures { OnOk result (IfSome (R.remaining input.old)
         (λ xs. length xs < most_reads → Appends (W.contents output.old) (W.contents output.new) (P.made head xs))) }
 {
@@ -54,6 +51,14 @@ pub fn run_program<P: RecordingProgram, R: Read, W: Write, E: Write>(
     let n = whole.count;
     let mut samples = room::<i16, RECORDING_SAMPLES>(0);
     let mut table = room::<i32, RECORDING_NUMBERS>(0);
-    let made = P::make(head, &bytes[..n], whole.more, &mut samples, &mut table, out);
+    let mut out = room::<u8, LONGEST>(0);
+    let made = P::make(
+        head,
+        &bytes[..n],
+        whole.more,
+        &mut samples,
+        &mut table,
+        &mut out,
+    );
     write_output(output, errors, name, &out[..made])
 }

@@ -2,10 +2,12 @@
 #![tactic(auto)]
 
 use recording_head::Head;
-use track_sheet_writer::write_track_sheet;
+use recording_program::run_program;
+use track_sheet_writer::TrackSheet;
 
+// The streams are handed over in each main: what those of a process hold no contract can say, so a function that took them itself would promise nothing.
 fn main(rt: HostRuntime) {
-    let _ = write_track_sheet(
+    let _ = run_program::<TrackSheet, _, _, _, _>(
         &mut rt.stdin(),
         &mut rt.stdout(),
         &mut rt.stderr(),

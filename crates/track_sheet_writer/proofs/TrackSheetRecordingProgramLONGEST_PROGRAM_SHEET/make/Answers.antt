@@ -1,7 +1,7 @@
 -- `TrackSheet::make` meets its contract: the first bytes that `sheet_write_bytes` leaves are the input's sheet or its refusal.
 use Rattle.recording_program.specs.PrintedLaws.{printed_text}
 use Rattle.sheet_write_bytes.specs.Program.{sheet_bytes_call}
-use Rattle.track_sheet_writer.proofs.TrackSheetRecordingProgram.make.Goals as goal
+use Rattle.track_sheet_writer.proofs.TrackSheetRecordingProgramLONGEST_PROGRAM_SHEET.make.Goals as goal
 
 pub returns-clause-value : goal.returns-clause-value
 unfolding sheet_bytes_call
