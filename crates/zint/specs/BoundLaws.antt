@@ -1,7 +1,8 @@
 -- Bounds on integers. A bound is on the size, `nat_abs z ≤ K`: it is kept by a product and a sum, and gives the fit of a width.
 use Rattle.std.specs.Prelude.{◌≡◌, refl, ℕ, zero, suc, ◌+◌, ◌*◌, ◌^◌, ◌≤◌, ◌<◌, T, leb, ltb, ℤ, pos, negsuc, neg_ℤ, nat_abs, ◌+ℤ◌, ◌-ℤ◌, ◌*ℤ◌}
 use Rattle.std.proofs.Common.{mul-le-mul, le_trans, le_of_eq, lt_of_le_of_lt, lt_of_lt_of_le, div-lt_iff_lt-mul, arith, ltb→lt, leb→le}
-use Rattle.std.specs.Int.Signed.{mag, shr_z, mag_shr}
+use Rattle.std.proofs.lemmas.Int.{unsigned_abs-mul, fits_signed_from_abs}
+use Rattle.std.specs.Int.Signed.{mag, shr_z, mag_shr, nat_abs-le}
 use Rattle.std.specs.Int.{Width, w16, w32, w64}
 use mir.Val.{SFits, hbits}
 use mir.ValLaws.{sfits_le}
@@ -17,10 +18,7 @@ abs_neg (pos (suc n)) = refl
 abs_neg (negsuc n) = refl
 
 pub abs_mul : (a b : ℤ) → nat_abs (a *ℤ b) ≡ nat_abs a * nat_abs b
-abs_mul (pos a) (pos b) = refl
-abs_mul (pos a) (negsuc b) = abs_neg (pos (a * suc b))
-abs_mul (negsuc a) (pos b) = abs_neg (pos (suc a * b))
-abs_mul (negsuc a) (negsuc b) = refl
+abs_mul a b = unsigned_abs-mul a b
 
 -- a sum's size
 sum_le : (z : ℤ) (p q : ℕ) → up z + q ≡ p + dn z → nat_abs z ≤ p + q
@@ -40,19 +38,15 @@ mag_le_abs : (z : ℤ) → mag z ≤ nat_abs z
 mag_le_abs (pos n) = omega arith
 mag_le_abs (negsuc n) = omega arith
 
-abs_le_of_mag : (z : ℤ) (H : ℕ) → mag z < H → nat_abs z ≤ H
-abs_le_of_mag (pos n) H h = omega arith
-abs_le_of_mag (negsuc n) H h = omega arith
-
 -- between a width and a bound on the size
 pub fits_abs : {w : Width} {z : ℤ} → SFits w z → nat_abs z ≤ 2 ^ hbits w
-fits_abs {w} {z} f = abs_le_of_mag z (2 ^ hbits w) f.sfits
+fits_abs {w} {z} f = nat_abs-le z f.sfits
 
 pub abs_fits : {w : Width} {K : ℕ} (z : ℤ) → T (ltb K (2 ^ hbits w)) → nat_abs z ≤ K → SFits w z
 abs_fits {w} {K} z t h = record { sfits = lt_of_le_of_lt (le_trans (mag_le_abs z) h) (ltb→lt K (2 ^ hbits w) t) }
 
 pub abs_lt_fits : {w : Width} (z : ℤ) → nat_abs z < 2 ^ hbits w → SFits w z
-abs_lt_fits z h = record { sfits = lt_of_le_of_lt (mag_le_abs z) h }
+abs_lt_fits {w} z h = fits_signed_from_abs w z h
 
 pub abs_pos : (z : ℤ) → (z ≡ pos 0 → ⊥) → 0 < nat_abs z
 abs_pos (pos zero) g = absurd (g refl)
