@@ -1,22 +1,16 @@
 -- The laws of F(n), the frames in n samples.
-use Rattle.std.specs.Prelude.{ℕ, zero, suc, ◌+◌, ◌-◌, ◌*◌, ◌/◌, ◌≤◌, ◌<◌, ◌≡◌, ◌⊎◌}
-use Rattle.std.proofs.Common.{sym, ap, ◌∙◌, inl, inr, ⊎_elim, div-mul-le_self, mul-le-mul_right, add-mul, arith}
+use Rattle.std.specs.Prelude.{ℕ, ◌+◌, ◌-◌, ◌*◌, ◌/◌, ◌≤◌, ◌<◌, ◌≡◌, ◌⊎◌}
+use Rattle.std.proofs.Common.{sym, ap, ◌∙◌, ⊎_elim, div-mul-le_self, mul-le-mul_right, add-mul, arith}
+use Rattle.std.proofs.lemmas.Bool.{cases_lt, cases_eq}
 use Rattle.std.proofs.Math.Nat.{lt-div-mul-add}
 use borrow.Author.Tests.{lt-ltb, le-ltb}
 use Rattle.track_paper.specs.Paper.{frame_count}
 
 pub lt_or_le : (m n : ℕ) → (m < n) ⊎ (n ≤ m)
-lt_or_le zero zero = inr (omega arith)
-lt_or_le zero (suc n) = inl (omega arith)
-lt_or_le (suc m) zero = inr (omega arith)
-lt_or_le (suc m) (suc n) = ⊎_elim (λ p. inl (omega arith)) (λ p. inr (omega arith)) (lt_or_le m n)
+lt_or_le m n = cases_lt m n
 
 pub eq_or_ne : (a b : ℕ) → (a ≡ b) ⊎ (a ≡ b → ⊥)
-eq_or_ne a b =
-    ⊎_elim
-    (λ (p : a < b). inr (λ (e : a ≡ b). omega arith))
-    (λ (p : b ≤ a). ⊎_elim (λ (q : b < a). inr (λ (e : a ≡ b). omega arith)) (λ (q : a ≤ b). inl (omega arith)) (lt_or_le b a))
-    (lt_or_le a b)
+eq_or_ne a b = cases_eq a b
 
 module _ (len hop : ℕ) where
   pub short : (n : ℕ) → n < len → frame_count len hop n ≡ 0
