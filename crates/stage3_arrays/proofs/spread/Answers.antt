@@ -6,7 +6,8 @@ use lib.ListN.{get_or, replicate}
 use lib.Signed.{mag}
 use mir.Syntax.{w8, w32}
 use mir.Val.{SFits, to_z, of_z}
-use Rattle.zint.specs.ReadLaws.{r_elem, r_var}
+use Rattle.std.proofs.lemmas.Int.{to_z-of_z}
+use Rattle.zint.specs.ReadLaws.{r_elem}
 use Rattle.lists.specs.Fill.{tabulate, filled}
 use Rattle.lists.specs.FillLaws.{filled_none, filled_turn}
 use Rattle.stage3_arrays.specs.Arrays.{subframe_array, Placed}
@@ -21,11 +22,8 @@ loop-i-init c = filled_none _ _
 offset_read : {x : ℤ} → mag x < 2 ^ 7 → to_z w8 (of_z w8 x) ≡ x
 offset_read {x} f = (r_elem w8 x f).val
 
-low_read : {l : ℤ} → SFits w32 l → to_z w32 (of_z w32 l) ≡ l
-low_read f = (r_var f).val
-
 placed_read : {x l : ℤ} → mag x < 2 ^ 7 → SFits w32 l → Placed x l → Placed (to_z w8 (of_z w8 x)) (to_z w32 (of_z w32 l))
-placed_read {x} {l} f g p = subst (λ (y : ℤ). Placed y (to_z w32 (of_z w32 l))) (sym (offset_read f)) (subst (Placed x) (sym (low_read g)) p)
+placed_read {x} {l} f g p = subst (λ (y : ℤ). Placed y (to_z w32 (of_z w32 l))) (sym (offset_read f)) (subst (Placed x) (sym (to_z-of_z w32 l g)) p)
 
 pub offset_place-idx-requires : goal.offset_place-idx-requires
 offset_place-idx-requires c = placed_read c.offset_place-arg-1.given c.ranges.low (c.requires.1.1 c.loop-i.i c.loop-i-test.true)
@@ -46,4 +44,4 @@ unfolding subframe_array
 returns c =
     let a = c.args in
     let e : c.loop-i.i ≡ a.count = omega arith in
-    c.loop-i.invariant ∙ ap₂ (λ (l : ℤ) (n : ℕ). filled (five_of a.scratch_mem.now a.offsets.now l) n (replicate 34 (replicate 5 (pos 0)))) (low_read c.ranges.low) e
+    c.loop-i.invariant ∙ ap₂ (λ (l : ℤ) (n : ℕ). filled (five_of a.scratch_mem.now a.offsets.now l) n (replicate 34 (replicate 5 (pos 0)))) (to_z-of_z w32 a.low c.ranges.low) e
