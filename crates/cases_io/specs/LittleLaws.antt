@@ -4,6 +4,7 @@ use Rattle.std.proofs.Math.Bool.{and-false}
 use Rattle.std.specs.Int.{w16, w32, w64, from_le_bytes}
 use Rattle.std.proofs.Common.{sym, ap, ap₂, ◌∙◌, subst, add-one, arith, length-set}
 use Rattle.std.proofs.Math.Decide.{dec_lt}
+use Rattle.std.proofs.lemmas.List.{get_or_past}
 use Rattle.lists.specs.Fill.{filled, tabulate}
 use Rattle.lists.specs.FillLaws.{filled_none, filled_turn}
 use Rattle.zint.specs.Wrap.{wrap, mod_z}
@@ -11,9 +12,7 @@ use Rattle.cases_io.specs.Little.{u16_at, u32_at, u64_at, i16_at, i32_at, is_num
 
 -- ---- past the end
 pub byte_past : (xs : List ℕ) (k : ℕ) → length xs ≤ k → slice_index xs k ≡ 0
-byte_past [] k h = refl
-byte_past (x ∷ xs) zero h = absurd (omega arith)
-byte_past (x ∷ xs) (suc k) h = byte_past xs k (omega arith)
+byte_past xs k h = get_or_past xs k 0 h
 
 pub u16_past : (xs : List ℕ) (k : ℕ) → length xs ≤ k → u16_at xs k ≡ 0
 unfolding u16_at

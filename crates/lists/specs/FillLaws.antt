@@ -1,14 +1,14 @@
 -- Laws of lists whose first places are given by a rule, which is what a loop that stores one element a turn leaves.
 use Rattle.std.specs.Prelude.{◌≡◌, take, set}
 use Rattle.std.proofs.Math.Path.{refl, sym, ap, ap₂}
-use Rattle.std.proofs.Common.{◌∙◌, add-zero, append_assoc, drop_at, drop-drop, add-one, length-drop, length-take-le, get_or-take, drop_of_length-le, take_all, ext_get_or}
+use Rattle.std.proofs.Common.{◌∙◌, add-zero, append_assoc, drop_at, drop-drop, add-one, length-drop, length-take-le, get_or-take, drop_of_length-le, ext_get_or}
 use mathlib.Core.List.{List, [], ◌∷◌, ◌++◌, append-nil}
 use Prim.Native.Nat.{ℕ, zero, suc, ◌+◌, ◌-◌, ◌<◌, ◌≤◌}
 use native.Mathlib.Omega.{arith}
 use Rattle.std.proofs.Math.Decide.{dec_lt}
 use Rattle.std.proofs.Math.ListN.{length, get_or, drop, length-append, get_or-append}
 use Rattle.std.proofs.Math.Seq.{drop-cons, take_at, get_or_at, get_or-append-add, get_or-drop, append_snoc}
-use Rattle.std.proofs.lemmas.List.{set_at}
+use Rattle.std.proofs.lemmas.List.{set_at, take_rest}
 use Rattle.lists.specs.Fill.{tabulate, filled}
 
 module _ {A : Type 0} where
@@ -105,7 +105,7 @@ module _ {A : Type 0} where
 
   -- the part `&l[i..]`, as a callee is handed it
   pub tail_part : (i : ℕ) (l : List A) → take (length l - i) (drop i l) ≡ drop i l
-  tail_part i l = take_all (length l - i) (drop i l) (omega (arith, length-drop i l))
+  tail_part i l = take_rest l i
 
   -- rules that agree below n give the same list
   pub tabulate_ext : {f g : ℕ → A} (n : ℕ) → ((k : ℕ) → k < n → f k ≡ g k) → tabulate f n ≡ tabulate g n

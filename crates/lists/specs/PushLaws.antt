@@ -4,6 +4,7 @@ use Rattle.std.proofs.Math.Path.{refl, sym, ap, ap₂}
 use Rattle.std.proofs.Common.{◌∙◌, arith, length-append, length-drop, drop-cons}
 use mathlib.Core.List.{List, [], ◌∷◌, ◌++◌}
 use Rattle.std.proofs.Math.Numerals.{add-one}
+use Rattle.std.proofs.lemmas.List as list
 use Rattle.std.proofs.Math.ListN.{drop, set}
 use Rattle.std.proofs.Math.Seq.{set_at, take_at, append_snoc}
 use Rattle.lists.specs.Fill.{tabulate, filled, overwritten}
@@ -29,7 +30,7 @@ module _ {A : Type 0} where
   filled_overwritten f n l = ap (λ (m : ℕ). tabulate f n ++ drop m l) (sym (length_tabulate f n))
 
   pub length_push : (xs : List A) (v : A) → length (xs ++ (v ∷ [])) ≡ length xs + 1
-  length_push xs v = length-append xs (v ∷ [])
+  length_push xs v = list.length_push xs v
 
   -- one turn of a loop that stores v after the n elements so far
   pub overwritten_push : (xs l : List A) (n : ℕ) {out : List A} {v w : A} → out ≡ overwritten xs l → v ≡ w → n ≡ length xs → n < length l → set out n v ≡ overwritten (xs ++ (w ∷ [])) l

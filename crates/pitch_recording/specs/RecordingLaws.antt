@@ -1,13 +1,14 @@
 -- Laws of the program's text: the settings and samples of an input's first bytes, the limit of the frames that a program takes, the refusal's number, the whole outcome, and the rows of a fresh track.
 use Rattle.std.proofs.Math.Path.{◌≡◌, refl, sym, ap}
 use Rattle.std.proofs.Common.{◌∙◌, subst, append-nil, arith, length-append}
-use Rattle.std.specs.Prelude.{Result, Ok, Err, IsErr, Bool, ◌||◌, List, [], ◌∷◌, ◌++◌, ℕ, ◌+◌, ◌-◌, ◌*◌, ◌/◌, ◌%◌, ◌≤◌, ◌<◌, ltb, leb, ℤ, pos, take, replicate}
+use Rattle.std.specs.Prelude.{Result, Ok, Err, IsErr, Bool, List, [], ◌∷◌, ◌++◌, ℕ, ◌+◌, ◌-◌, ◌*◌, ◌/◌, ◌%◌, ◌≤◌, ◌<◌, ltb, leb, ℤ, pos, take, replicate}
 use Rattle.std.proofs.Math.Bool.{true, false, cond}
 use Rattle.std.proofs.Math.Logic.{⊎_elim}
 use borrow.Author.Tests.{lt-ltb, le-ltb, le-leb, lt-leb, eq-eqb, ne_eqb, ltb-false, eqb-true, eqb-false}
 use Rattle.std.proofs.Math.Dec.{eqb}
 use Rattle.std.proofs.Math.ListN.{length}
-use Rattle.std.proofs.lemmas.List.{length-replicate}
+use Rattle.std.proofs.lemmas.Bool.{or_parts}
+use Rattle.std.proofs.lemmas.List.{length-replicate, nil_from_length}
 use Rattle.lists.specs.Fill.{overwritten}
 use Rattle.lists.specs.PushLaws.{take_overwritten}
 use Rattle.pitch_input.specs.InputLaws.{settings_small, length_samples}
@@ -154,13 +155,9 @@ first_none false wrong long known e = by (eqb wrong 0) long refl e
     by true false p q = (refl, eqb-true wrong 0 p, refl)
     by false l p q = absurd (eqb-false wrong 0 p (sym q))
 
-or_left : (a b : Bool) → (a || b) ≡ false → a ≡ false
-or_left true b e = e
-or_left false b e = refl
-
 not_half : (head : Head) (b : List ℕ) → half_input head b ≡ false → bytes_of_head head ≤ length b
 unfolding half_input
-not_half head b e = ltb-false (length b) (bytes_of_head head) (or_left _ _ e)
+not_half head b e = ltb-false (length b) (bytes_of_head head) (or_parts _ _ e).0
 
 -- an input that is not refused
 pub record Ready (head : Head) (b : List ℕ) : Type 0 where
@@ -225,13 +222,9 @@ at_hand head b more n full f z =
     let e = none_more head b r (λ h. full (omega arith)) q in
     (sym l ∙ ap length e, subst (Ready head) (ap (λ (t : List ℕ). b ++ t) e ∙ append-nil b) q)
 
-nothing_left : (r : List ℕ) → length r ≡ 0 → r ≡ []
-nothing_left [] e = refl
-nothing_left (x ∷ r) e = absurd (omega arith)
-
 -- no byte follows
 pub none_after : (b r : List ℕ) (more : ℕ) → more ≡ 0 → length r ≡ more → b ++ r ≡ b
-none_after b r more m l = ap (λ (t : List ℕ). b ++ t) (nothing_left r (l ∙ m)) ∙ append-nil b
+none_after b r more m l = ap (λ (t : List ℕ). b ++ t) (nil_from_length r (l ∙ m)) ∙ append-nil b
 
 -- ---- the whole outcome: a text that is laid over the front of `out`
 module _ (head : Head) (b text out : List ℕ) (x t : List ℤ) {len : ℕ} {after : List ℕ} (count : len ≡ length text) (over : after ≡ overwritten text out) where

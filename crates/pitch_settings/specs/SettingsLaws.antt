@@ -1,6 +1,7 @@
 -- What settings that a sheet can hold say, and so settings that are analysed: the rate, the subframe count, the complexity, and bounds on the sizes.
 use Rattle.std.specs.Prelude.{◌≡◌, refl, Bool, true, false, ◌||◌, cond, ◌⊎◌, ℕ, ◌≤◌, ◌<◌, eqb}
 use Rattle.std.proofs.Common.{inl, inr, ⊎_elim, arith, eqb-true, leb-true}
+use Rattle.std.proofs.lemmas.Bool.{or_cases}
 use Rattle.pitch_settings.specs.declared.Settings.{Settings}
 use Rattle.pitch_settings.specs.Settings.{rate_known, subframes_known, complexity_analysed, complexity_held, settings_refusal, settings_no, held_no, frame_length, hop_length}
 
@@ -16,20 +17,16 @@ pub record Accepted (s : Settings) : Type 0 where
   pub within : hop_length s ≤ frame_length s
   pub small : frame_length s ≤ 640
 
-or_known : (a b : Bool) → (a || b) ≡ true → (a ≡ true) ⊎ (b ≡ true)
-or_known true b e = inl refl
-or_known false b e = inr e
-
 rates : (rate : ℕ) → rate_known rate ≡ true → (rate ≡ 8) ⊎ ((rate ≡ 12) ⊎ (rate ≡ 16))
 unfolding rate_known
 rates rate e =
     ⊎_elim (λ h. inl (eqb-true rate 8 h))
-    (λ k. inr (⊎_elim (λ h. inl (eqb-true rate 12 h)) (λ h. inr (eqb-true rate 16 h)) (or_known (eqb rate 12) (eqb rate 16) k)))
-    (or_known (eqb rate 8) (eqb rate 12 || eqb rate 16) e)
+    (λ k. inr (⊎_elim (λ h. inl (eqb-true rate 12 h)) (λ h. inr (eqb-true rate 16 h)) (or_cases (eqb rate 12) (eqb rate 16) k)))
+    (or_cases (eqb rate 8) (eqb rate 12 || eqb rate 16) e)
 
 counts : (nb : ℕ) → subframes_known nb ≡ true → (nb ≡ 2) ⊎ (nb ≡ 4)
 unfolding subframes_known
-counts nb e = ⊎_elim (λ h. inl (eqb-true nb 2 h)) (λ h. inr (eqb-true nb 4 h)) (or_known (eqb nb 2) (eqb nb 4) e)
+counts nb e = ⊎_elim (λ h. inl (eqb-true nb 2 h)) (λ h. inr (eqb-true nb 4 h)) (or_cases (eqb nb 2) (eqb nb 4) e)
 
 -- ---- the refusal by its tests
 

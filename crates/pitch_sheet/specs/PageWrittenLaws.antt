@@ -1,7 +1,7 @@
 -- A page that is accepted is the sheet of the settings and rows that it reads as.
 use Rattle.std.specs.Prelude.{Some, ◌≡◌, Bool, true, false, ◌⊎◌, eqb, ℤ, pos, drop}
 use Rattle.std.proofs.Math.Path.{refl, sym, ap, ap₂}
-use Rattle.std.proofs.Common.{◌∙◌, inl, inr, add-one, eqb-true, length-drop, take-add, drop-drop, drop-cons, length-take-le, SFits}
+use Rattle.std.proofs.Common.{◌∙◌, inl, inr, add-one, mul-zero, eqb-true, length-drop, take-add, drop-drop, drop-cons, length-take-le, SFits}
 use mathlib.Core.List.{List, [], ◌∷◌, ◌++◌, map}
 use Rattle.std.proofs.Math.Logic.{⊎_elim}
 use Prim.Native.Nat.{ℕ, zero, suc, ◌+◌, ◌*◌, ◌≤◌, ◌<◌}
@@ -39,9 +39,6 @@ module _ (p : List ℕ) where
 
 times_next : (w m : ℕ) → w * (m + 1) ≡ w * m + w
 times_next w m = omega arith
-
-times_none : (w : ℕ) → w * 0 ≡ 0
-times_none w = omega arith
 
 module _ (p : List ℕ) (bytes : Bytes p) (fine : well_formed p ≡ true) where
   abbrev g : Good p
@@ -174,7 +171,7 @@ module _ (p : List ℕ) (bytes : Bytes p) (fine : well_formed p ≡ true) where
 
     voiced_bytes : (i : ℕ) → i ≤ frames_in p → rows_bytes k (first_rows p i) ≡ take (entry_bytes k * voiced_before p i) (drop a p)
     unfolding tabulate section_entries concat voiced_before
-    voiced_bytes zero l = ap (λ (j : ℕ). take j (drop a p)) (sym (times_none (entry_bytes k)))
+    voiced_bytes zero l = ap (λ (j : ℕ). take j (drop a p)) (sym (mul-zero (entry_bytes k)))
     voiced_bytes (suc i) l = voiced_step i (omega arith) (voiced_bytes i (omega arith))
 
   -- ---- the sections

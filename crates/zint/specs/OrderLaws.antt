@@ -1,17 +1,14 @@
 -- The order of the integers: the laws that `lib.Signed` does not have, and a test from a fact.
 use Rattle.std.specs.Prelude.{◌≡◌, refl, Bool, true, false, ◌⊎◌, ◌<◌, ◌≤◌, T, ℤ, pos, negsuc, ◌≤ℤ◌, ◌<ℤ◌}
 use Rattle.std.proofs.Common.{ap, inl, inr, ⊎_elim, arith, leb→le, le→leb, ltb→lt}
+use Rattle.std.proofs.lemmas.Int.{by_lt_z}
 use Rattle.std.specs.Int.Signed.{lt_z, le_z, lt_z_yes, le_z_yes, <ℤ-≤ℤ_trans, clash_ℤ}
 use Rattle.zint.specs.TestLaws.{lt_true, lt_false, le_true, le_false}
 use Rattle.zint.specs.ReadLaws.{via_lt, via_le}
 
 -- of two integers, one is at most the other
 pub order : (a b : ℤ) → (a <ℤ b) ⊎ (b ≤ℤ a)
-order a b = by (lt_z a b) refl
-  where
-    by : (t : Bool) → lt_z a b ≡ t → (a <ℤ b) ⊎ (b ≤ℤ a)
-    by true e = inl (lt_true a b e)
-    by false e = inr (lt_false a b e)
+order a b = by_lt_z a b (λ h. inl h) (λ h. inr h)
 
 weak : (a b : ℤ) → T (lt_z a b) → T (le_z a b)
 weak (pos a) (pos b) t = let h : a < b = ltb→lt a b t in le→leb a b (omega arith)

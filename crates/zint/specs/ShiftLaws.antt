@@ -1,7 +1,7 @@
 -- A shift by a signed amount: the amount's bits are its size where it is not negative.
 use Rattle.std.specs.Prelude.{◌≡◌, refl, ℕ, ◌-◌, ◌*◌, ◌^◌, ◌≤◌, ◌<◌, ℤ, pos, negsuc, nat_abs, ◌-ℤ◌, ◌≤ℤ◌, ◌<ℤ◌}
-use Rattle.std.proofs.Common.{ap, ◌∙◌, lt_of_lt_of_le, div-lt_iff_lt-mul, mul-le-mul_left, pow_pos, pow_mono, SFits, to_z, of_z}
-use Rattle.std.specs.Int.Signed.{mag, shr_z}
+use Rattle.std.proofs.Common.{sym, ap, ◌∙◌, lt_of_lt_of_le, div-lt_iff_lt-mul, mul-le-mul_left, pow_pos, pow_mono, SFits, to_z, of_z}
+use Rattle.std.specs.Int.Signed.{mag, shr_z, pos-nat_abs, yes_non_neg}
 use Rattle.std.specs.Int.{Width, w32, w64}
 use Rattle.std.proofs.lemmas.Int.{to_z-of_z}
 use Rattle.zint.specs.DiffLaws.{eq_of, sub_ud', positive_dn, negative_up, zarith}
@@ -17,8 +17,7 @@ wide_amount s f h = ap (of_z w64) (to_z-of_z w32 s f) ∙ amount w64 s h
 
 -- the size of a number that is not negative, and of one that is
 pub nonneg_abs : (z : ℤ) → pos 0 ≤ℤ z → z ≡ pos (nat_abs z)
-nonneg_abs (pos n) h = refl
-nonneg_abs (negsuc n) h = absurd h.le
+nonneg_abs z h = sym (pos-nat_abs z (yes_non_neg h))
 
 pub neg_abs : (z : ℤ) → z <ℤ pos 0 → pos 0 -ℤ z ≡ pos (nat_abs z)
 neg_abs z h = eq_of (pos 0 -ℤ z) (pos (nat_abs z)) (omega (zarith, negative_up h, sub_ud' (pos 0) z, abs_ud z))

@@ -1,5 +1,6 @@
 -- `pitch_sheet::rows_hold` meets its contract: to ask each row in turn is to ask every row below a number.
-use Rattle.std.proofs.Common.{◌≡◌, refl, sym, ◌∙◌, ap, arith, rules, tests, ℕ, zero, suc, ◌+◌, Bool, true, false, ◌&&◌}
+use Rattle.std.proofs.Common.{◌≡◌, refl, sym, ◌∙◌, ap, arith, rules, tests, ℕ, zero, suc, ◌+◌, Bool, ◌&&◌}
+use Rattle.std.proofs.Math.Bool.{and-true, and_assoc}
 use Rattle.std.specs.List.{range_with_len, list_all}
 use Rattle.std.proofs.lemmas.Iterator.{YieldsList-from_range}
 use Rattle.std.proofs.lemmas.Iterator.Search.{all_from_yields_List}
@@ -9,18 +10,10 @@ use Rattle.sheet_rows.specs.Rows.{row_holds}
 use Rattle.pitch_sheet.specs.Calls.{rows_hold}
 use Rattle.pitch_sheet.proofs.rows_hold.Goals as goal
 
-and_assoc : (a b c : Bool) → ((a && b) && c) ≡ (a && (b && c))
-and_assoc true b c = refl
-and_assoc false b c = refl
-
-and_true : (a : Bool) → a ≡ (a && true)
-and_true true = refl
-and_true false = refl
-
 -- the first number asked by itself
 every_front : (n : ℕ) (test : ℕ → Bool) → every (suc n) test ≡ (test 0 && every n (λ i. test (suc i)))
 unfolding every
-every_front zero test = and_true (test 0)
+every_front zero test = sym (and-true (test 0))
 every_front (suc n) test = ap (λ (b : Bool). b && test (suc n)) (every_front n test) ∙ and_assoc (test 0) (every n (λ i. test (suc i))) (test (suc n))
 
 all_every : (test : ℕ → Bool) (a n : ℕ) → list_all test (range_with_len a n) ≡ every n (λ i. test (a + i))

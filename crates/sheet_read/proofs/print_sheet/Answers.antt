@@ -1,7 +1,8 @@
 -- `sheet_read::print_sheet` meets its contract: what is written first is the input's text, whatever follows the bytes that were looked at.
-use Rattle.std.proofs.Common.{◌≡◌, ltb, ℕ, zero, suc, ◌+◌, ◌<◌, ◌++◌, List, [], length, take, ℤ, Option, Some, IfSome, Result, Ok, Err, OnOk, sym, ap, ◌∙◌, subst, length-append, arith}
+use Rattle.std.proofs.Common.{◌≡◌, ltb, ℕ, zero, suc, ◌+◌, ◌<◌, ◌++◌, List, [], length, take, ℤ, Option, Some, IfSome, sym, ap, ◌∙◌, subst, length-append, arith}
 use Rattle.std.specs.Io.KnownBytes.{Appends, IsAtEnd}
 use borrow.Author.Tests.{lt-ltb}
+use Rattle.std.proofs.lemmas.Result.{on_ok_weaker}
 use Rattle.lists.specs.PushLaws.{take_overwritten}
 use Rattle.recording_io.specs.KnownLaws.{known_bytes}
 use Rattle.sheet_text.specs.Program.{SheetPrinted, sheet_printed, sheet_text, sheet_text_call}
@@ -24,11 +25,6 @@ follow rest ys new (suc n) e p end =
     let long : length (rest ++ ys) ≡ suc (n + length ys) = length-append rest ys ∙ omega arith in
     ap (ltb 0) long ∙ lt-ltb 0 (suc (n + length ys)) (omega arith) ∙ sym (lt-ltb 0 (suc n) (omega arith))
 
--- what follows from what a call left that did not fail
-on_ok : {T E P Q : Type 0} (r : Result T E) → (P → Q) → OnOk r P → OnOk r Q
-on_ok (Ok x) f p = f p
-on_ok (Err e) f p = tt
-
 pub returns : goal.returns
 returns g c =
     let read = c.in-Ok.ensures in
@@ -36,7 +32,7 @@ returns g c =
     let rest = bytes.0 in
     let old = g.W.Write.contents c.args.output.now in
     let new = g.W.Write.contents c.write_output.new.output in
-    on_ok {P = Appends old new (take c.sheet_text-r.result c.sheet_text-r.new.out)} {Q = IfSome (g.R.Read.remaining c.args.input.now) (λ xs. Appends old new (sheet_text xs))} c.write_output.result
+    on_ok_weaker {P = Appends old new (take c.sheet_text-r.result c.sheet_text-r.new.out)} {Q = IfSome (g.R.Read.remaining c.args.input.now) (λ xs. Appends old new (sheet_text xs))} c.write_output.result
     (λ w.
     known_bytes _ _ (take c.in-Ok.whole.count c.read_whole.new.buf) rest (λ xs. Appends old new (sheet_text xs)) bytes.2
     (λ ys at_ys.
