@@ -12,7 +12,6 @@ use Rattle.silk_macros.specs.Macros.{smulbb}
 use Rattle.silk_macros.specs.Log.{lin2log}
 use Rattle.stage2.specs.Scores.{lag_bias, distance, prev_bias}
 use Rattle.stage2.specs.ScoreLaws.{log_small, distance_low, distance_high, less_lag_bias, less_prev_bias, biased_yes, biased_no}
-use Rattle.zint.specs.RuleLaws.{zneeds}
 use Rattle.stage2.proofs.biased_score.Goals as goal
 use borrow.Author.Rules.{rules}
 
@@ -110,24 +109,3 @@ returns-else-prev-gt0 c =
     let long = r_call1 w32 (λ (z : ℤ). shr_z z 128) c.silk_rshift.type_inv (r_call2 w32 smulbb m.type_inv (r_nat w32 (a.nb_subfr * 410) (omega arith)) x m.ensures) c.silk_rshift.ensures in
     let prev : SFits w32 a.prev.lag = search rules in
     (r_sub (r_var c.ranges.cc) long (less_fits a.cc a.nb_subfr a.d a.prev.lag a.prev.correlation c.requires.0)).val ∙ biased_no a.cc _ _ _ _ c.requires.0 (t_above (pos 0) (r_var prev) c.if-prev-gt0.false)
-
-pub overflow_cast-d : goal.overflow_cast-d
-overflow_cast-d c = search zneeds
-
-pub silk_lin2log-lag_log2_q7-requires : goal.silk_lin2log-lag_log2_q7-requires
-silk_lin2log-lag_log2_q7-requires c = search zneeds
-
-pub overflow_mul-nb_subfr : goal.overflow_mul-nb_subfr
-overflow_mul-nb_subfr c = search zneeds
-
-pub overflow_cast-nb_subfr : goal.overflow_cast-nb_subfr
-overflow_cast-nb_subfr c = search zneeds
-
-pub silk_smulbb-requires : goal.silk_smulbb-requires
-silk_smulbb-requires c = search zneeds
-
-pub silk_rshift-requires : goal.silk_rshift-requires
-silk_rshift-requires c = search zneeds
-
-pub silk_lin2log-prev_lag_log2_q7-requires : goal.silk_lin2log-prev_lag_log2_q7-requires
-silk_lin2log-prev_lag_log2_q7-requires c = search zneeds
