@@ -151,7 +151,7 @@ fn consider(
 // The search: the correlations of each subframe at the lags 14 to 145, the lags that stage 1 kept, and what the search goes by besides. At least one contour is tried, and no
 // more than the codebook has.
 #[derive(Clone, Copy)]
-pub struct Search8khz<'c, 'k> {
+struct Search8khz<'c, 'k> {
     pub c_8khz: &'c [[i16; 132]; 4],
     pub kept: KeptLags<'k>,
     pub by: LagSearch,
@@ -163,7 +163,7 @@ pub struct Search8khz<'c, 'k> {
 }
 
 impl Search8khz<'_, '_> {
-    // The correlations along contour j of the lag d, added up over the subframes.
+    // The correlations along contour j of the lag d, added up over the subframes. By the subframe as a number, since the codebook is asked for it too.
     fn contour_sum(&self, d: usize, j: usize) -> i32
         requires { (16 ≤ d) × ((d ≤ 143) × (j < entries2 self.now.by.nb)) }
         ensures { result ≡ contour_sum (at2 self.now.c_8khz.now) self.now.by.nb d j }

@@ -1,9 +1,9 @@
 -- `stage2::biased_score` meets its contract.
-use mathlib.Core.Path.{◌∙◌}
-use Prim.Native.Nat.{ℕ, ◌*◌, ◌≤◌}
+use mathlib.Core.Path.{◌≡◌, ◌∙◌}
+use Prim.Native.Nat.{ℕ, ◌*◌, ◌≤◌, ◌<◌}
 use native.Mathlib.Omega.{arith}
 use lib.IntN.{ℤ, pos, nat_abs, ◌-ℤ◌}
-use lib.Signed.{shr_z}
+use lib.Signed.{mag, shr_z}
 use mir.Syntax.{w32}
 use mir.Val.{SFits, to_z, of_z}
 use Rattle.zint.specs.BoundLaws.{abs_fits}
@@ -12,7 +12,6 @@ use Rattle.silk_macros.specs.Macros.{smulbb}
 use Rattle.silk_macros.specs.Log.{lin2log}
 use Rattle.stage2.specs.Scores.{lag_bias, distance, prev_bias}
 use Rattle.stage2.specs.ScoreLaws.{log_small, distance_low, distance_high, less_lag_bias, less_prev_bias, biased_yes, biased_no}
-use Rattle.zint.specs.RuleLaws.{zneeds}
 use Rattle.stage2.proofs.biased_score.Goals as goal
 use borrow.Author.Rules.{rules}
 
@@ -36,14 +35,21 @@ module _ (cc : ℤ) (nb d : ℕ) (prev corr : ℤ) where
   all_fits : nat_abs cc ≤ 131072 → SFits w32 (less -ℤ near)
   all_fits h = abs_fits (less -ℤ near) tt (less_prev_bias cc nb d prev corr h)
 
-pub overflow_sub-cc_max_new_b : goal.overflow_sub-cc_max_new_b
+-- the lag's logarithm, and its bias
+log_read : (d : ℕ) {l : ℤ} → d ≤ 143 → mag l < 2147483648 → l ≡ lin2log (to_z w32 d) → Reads w32 (of_z w32 l) (lin2log (pos d))
+log_read d h t e = r_call1 w32 lin2log t (r_nat w32 d (omega arith)) e
+
+long_read : (nb d : ℕ) {l m x : ℤ} → nb ≤ 4 → d ≤ 143 → mag l < 2147483648 → l ≡ lin2log (to_z w32 d) → mag m < 2147483648 → m ≡ smulbb (to_z w32 (nb * 410)) (to_z w32 (of_z w32 l)) → mag x < 2147483648
+    → x ≡ shr_z (to_z w32 (of_z w32 m)) 128 → Reads w32 (of_z w32 x) (lag_bias nb (lin2log (pos d)))
 unfolding lag_bias
+long_read nb d h k tl el tm em tx ex = r_call1 w32 (λ (z : ℤ). shr_z z 128) tx (r_call2 w32 smulbb tm (r_nat w32 (nb * 410) (omega arith)) (log_read d k tl el) em) ex
+
+pub overflow_sub-cc_max_new_b : goal.overflow_sub-cc_max_new_b
 overflow_sub-cc_max_new_b c =
     let a = c.args in
     let l = c.silk_lin2log-lag_log2_q7 in
     let m = c.silk_smulbb in
-    let x = r_call1 w32 lin2log l.type_inv (r_nat w32 a.d (omega arith)) l.ensures in
-    let long = r_call1 w32 (λ (z : ℤ). shr_z z 128) c.silk_rshift.type_inv (r_call2 w32 smulbb m.type_inv (r_nat w32 (a.nb_subfr * 410) (omega arith)) x m.ensures) c.silk_rshift.ensures in
+    let long = long_read a.nb_subfr a.d c.requires.1.0 c.requires.1.1 l.type_inv l.ensures m.type_inv m.ensures c.silk_rshift.type_inv c.silk_rshift.ensures in
     f_sub (r_var c.ranges.cc) long (less_fits a.cc a.nb_subfr a.d a.prev.lag a.prev.correlation c.requires.0)
 
 pub distance_q7-delta_lag_log2_sqr_q7-requires : goal.distance_q7-delta_lag_log2_sqr_q7-requires
@@ -52,13 +58,13 @@ distance_q7-delta_lag_log2_sqr_q7-requires c =
     let l = c.silk_lin2log-lag_log2_q7 in
     let p = c.silk_lin2log-prev_lag_log2_q7 in
     let prev : SFits w32 a.prev.lag = search rules in
-    rw ((r_call1 w32 lin2log l.type_inv (r_nat w32 a.d (omega arith)) l.ensures).val, (r_call1 w32 lin2log p.type_inv (r_var prev) p.ensures).val) (log_small (pos a.d), log_small a.prev.lag)
+    rw ((log_read a.d c.requires.1.1 l.type_inv l.ensures).val, (r_call1 w32 lin2log p.type_inv (r_var prev) p.ensures).val) (log_small (pos a.d), log_small a.prev.lag)
 
 pub prev_lag_bias-requires : goal.prev_lag_bias-requires
 prev_lag_bias-requires c =
     let a = c.args in
     let l = c.silk_lin2log-lag_log2_q7 in
-    let x = r_call1 w32 lin2log l.type_inv (r_nat w32 a.d (omega arith)) l.ensures in
+    let x = log_read a.d c.requires.1.1 l.type_inv l.ensures in
     let p = c.silk_lin2log-prev_lag_log2_q7 in
     let g = c.distance_q7-delta_lag_log2_sqr_q7 in
     let prev : SFits w32 a.prev.lag = search rules in
@@ -68,20 +74,18 @@ prev_lag_bias-requires c =
 -- the two differences
 module _ (c : goal.After-prev_lag_bias) where
   less_read : Reads w32 (of_z w32 (to_z w32 (of_z w32 c.args.cc) -ℤ to_z w32 (of_z w32 c.silk_rshift.result))) (less c.args.cc c.args.nb_subfr c.args.d c.args.prev.lag c.args.prev.correlation)
-  unfolding lag_bias
   less_read =
       let a = c.args in
       let l = c.silk_lin2log-lag_log2_q7 in
       let m = c.silk_smulbb in
-      let x = r_call1 w32 lin2log l.type_inv (r_nat w32 a.d (omega arith)) l.ensures in
-      let long = r_call1 w32 (λ (z : ℤ). shr_z z 128) c.silk_rshift.type_inv (r_call2 w32 smulbb m.type_inv (r_nat w32 (a.nb_subfr * 410) (omega arith)) x m.ensures) c.silk_rshift.ensures in
+      let long = long_read a.nb_subfr a.d c.requires.1.0 c.requires.1.1 l.type_inv l.ensures m.type_inv m.ensures c.silk_rshift.type_inv c.silk_rshift.ensures in
       r_sub (r_var c.ranges.cc) long (less_fits a.cc a.nb_subfr a.d a.prev.lag a.prev.correlation c.requires.0)
 
   near_read : Reads w32 (of_z w32 c.prev_lag_bias.result) (near c.args.cc c.args.nb_subfr c.args.d c.args.prev.lag c.args.prev.correlation)
   near_read =
       let a = c.args in
       let l = c.silk_lin2log-lag_log2_q7 in
-      let x = r_call1 w32 lin2log l.type_inv (r_nat w32 a.d (omega arith)) l.ensures in
+      let x = log_read a.d c.requires.1.1 l.type_inv l.ensures in
       let p = c.silk_lin2log-prev_lag_log2_q7 in
       let g = c.distance_q7-delta_lag_log2_sqr_q7 in
       let prev : SFits w32 a.prev.lag = search rules in
@@ -101,33 +105,10 @@ returns-then-prev-gt0 c =
     (r_sub (less_read c) (near_read c) (fits c)).val ∙ biased_yes c.args.cc _ _ _ _ c.requires.0 (t_above (pos 0) (r_var prev) c.if-prev-gt0.true)
 
 pub returns-else-prev-gt0 : goal.returns-else-prev-gt0
-unfolding lag_bias
 returns-else-prev-gt0 c =
     let a = c.args in
     let l = c.silk_lin2log-lag_log2_q7 in
     let m = c.silk_smulbb in
-    let x = r_call1 w32 lin2log l.type_inv (r_nat w32 a.d (omega arith)) l.ensures in
-    let long = r_call1 w32 (λ (z : ℤ). shr_z z 128) c.silk_rshift.type_inv (r_call2 w32 smulbb m.type_inv (r_nat w32 (a.nb_subfr * 410) (omega arith)) x m.ensures) c.silk_rshift.ensures in
+    let long = long_read a.nb_subfr a.d c.requires.1.0 c.requires.1.1 l.type_inv l.ensures m.type_inv m.ensures c.silk_rshift.type_inv c.silk_rshift.ensures in
     let prev : SFits w32 a.prev.lag = search rules in
     (r_sub (r_var c.ranges.cc) long (less_fits a.cc a.nb_subfr a.d a.prev.lag a.prev.correlation c.requires.0)).val ∙ biased_no a.cc _ _ _ _ c.requires.0 (t_above (pos 0) (r_var prev) c.if-prev-gt0.false)
-
-pub overflow_cast-d : goal.overflow_cast-d
-overflow_cast-d c = search zneeds
-
-pub silk_lin2log-lag_log2_q7-requires : goal.silk_lin2log-lag_log2_q7-requires
-silk_lin2log-lag_log2_q7-requires c = search zneeds
-
-pub overflow_mul-nb_subfr : goal.overflow_mul-nb_subfr
-overflow_mul-nb_subfr c = search zneeds
-
-pub overflow_cast-nb_subfr : goal.overflow_cast-nb_subfr
-overflow_cast-nb_subfr c = search zneeds
-
-pub silk_smulbb-requires : goal.silk_smulbb-requires
-silk_smulbb-requires c = search zneeds
-
-pub silk_rshift-requires : goal.silk_rshift-requires
-silk_rshift-requires c = search zneeds
-
-pub silk_lin2log-prev_lag_log2_q7-requires : goal.silk_lin2log-prev_lag_log2_q7-requires
-silk_lin2log-prev_lag_log2_q7-requires c = search zneeds
