@@ -16,9 +16,10 @@ pub const ROW_SIZE: usize = 8;
 // How many frames a track, and so a sheet, has at most.
 pub const MOST_FRAMES: usize = 4096;
 
-// The verdicts of a row without pitch.
+// The verdict of the row of an unvoiced frame.
 pub const UNVOICED: i32 = 1;
 
+// The verdict of the row of a frame in which a divisor that was reached is zero.
 pub const ZERO_DIVISOR: i32 = 2;
 
 // A row of a table: what is said of one frame.
