@@ -19,9 +19,6 @@ module _ (head : Head) (b : List ℕ) (size : ℕ) (sized : size ≡ bytes_of_he
   room : Ready head b → (x : List ℤ) → recording_samples ≤ length x → (length b - size) / 2 ≤ length x
   room w x h = omega (arith, few_samples _ w.analysed _ w.few, counted)
 
-pub check-requires : goal.check-requires
-check-requires c = c.requires.0
-
 pub returns-in_err-check : goal.returns-in_err-check
 returns-in_err-check c rest e =
     let n : number_told c.from_residual.result ≡ refusal_number c.in_err-check.field-0.0 = search rules in

@@ -1,11 +1,10 @@
 -- `pitch_text::put_fields` meets its contract.
-use mathlib.Core.Path.{◌≡◌, refl, sym, ap, ◌∙◌}
+use mathlib.Core.Path.{refl, sym, ap, ◌∙◌}
 use Prim.Native.Nat.{ℕ}
 use native.Mathlib.Numerals.{add-one}
 use native.Mathlib.Omega.{arith}
 use lib.IntN.{pos}
-use lib.ListN.{get_or, length, take, length-set}
-use lib.Seq.{take-length}
+use lib.ListN.{get_or, take, length-set}
 use mir.Syntax.{w32}
 use mir.Val.{SFits}
 use Rattle.zint.specs.ReadLaws.{r_var}
@@ -34,10 +33,3 @@ loop-value-preserved c =
       omega (arith, put.ends, decimal_few _ f),
       put_as (put_then l.invariant.3 (put_then (put_byte _ _ 32) put)) (sym (fields_next c.args.values.now l.value-index (omega arith)) ∙ ap (λ (m : ℕ). fields (take m c.args.values.now)) (sym (add-one l.value-index))),
     )
-
-pub returns : goal.returns
-returns c =
-    let l = c.loop-value in
-    let values = c.args.values.now in
-    let e : l.value-index ≡ length values = omega arith in
-    (put_as l.invariant.3 (ap (λ (m : ℕ). fields (take m values)) e ∙ ap fields (take-length values)), omega arith)

@@ -1,17 +1,14 @@
 -- `sheet_sections::put_numbers` meets its contract.
-use mathlib.Core.Path.{◌≡◌, refl, ap, ◌∙◌}
-use mathlib.Core.List.{List, map}
+use mathlib.Core.Path.{◌≡◌, refl, ◌∙◌}
 use native.Mathlib.Omega.{arith}
-use lib.ListN.{length, get_or}
-use lib.Seq.{take-length}
-use lib.IntN.{ℤ, pos}
+use lib.ListN.{get_or}
+use lib.IntN.{pos}
 use mir.Syntax.{w32}
 use mir.Val.{to_z, of_z}
 use Rattle.zint.specs.RuleLaws.{zneeds}
-use Rattle.lists.specs.PutLaws.{put_none, put_as}
-use Rattle.sheet_bytes.specs.Bytes.{signed}
+use Rattle.lists.specs.PutLaws.{put_none}
 use Rattle.sheet_sections.specs.Sheet.{concat}
-use Rattle.sheet_sections.specs.SheetLaws.{signed_first, put_signed}
+use Rattle.sheet_sections.specs.SheetLaws.{put_signed}
 use Rattle.sheet_sections.proofs.put_numbers.Goals as goal
 
 pub loop-number-init : goal.loop-number-init
@@ -24,10 +21,3 @@ loop-number-preserved c =
     let numbers = c.args.numbers.now in
     let z : to_z w32 (of_z w32 (get_or numbers l.number-index (pos 0))) ≡ get_or numbers l.number-index (pos 0) = search zneeds in
     (omega arith, c.put_i32.auto.page ∙ l.invariant.1, omega arith, put_signed numbers l.number-index (omega arith) l.invariant.3 c.put_i32.ensures z)
-
-pub returns : goal.returns
-returns c =
-    let l = c.loop-number in
-    let numbers = c.args.numbers.now in
-    let e : l.number-index ≡ length numbers = omega arith in
-    put_as l.invariant.3 (ap (signed_first numbers) e ∙ ap (λ (zs : List ℤ). concat (map signed zs)) (take-length numbers))

@@ -1,13 +1,9 @@
 -- `sheet_text::put_report` meets its contract.
 use native.Mathlib.Omega.{arith}
-use borrow.Author.Rules.{rules}
 use Rattle.pitch_settings.specs.SettingsLaws.{held_settings}
 use Rattle.pitch_text.specs.TextLaws.{put_then}
 use Rattle.sheet_text.specs.Program.{sheet_report}
 use Rattle.sheet_text.proofs.put_report.Goals as goal
-
-pub put_head-p-requires : goal.put_head-p-requires
-put_head-p-requires c = search rules
 
 pub put_lines-requires : goal.put_lines-requires
 put_lines-requires c =

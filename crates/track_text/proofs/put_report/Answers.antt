@@ -1,5 +1,5 @@
 -- `track_text::put_report` meets its contract.
-use mathlib.Core.Path.{◌≡◌, sym, ap, ap₂, ◌∙◌}
+use mathlib.Core.Path.{◌≡◌, ap, ap₂, ◌∙◌}
 use Prim.Native.Nat.{ℕ, ◌*◌, ◌≤◌}
 use native.Mathlib.Omega.{arith}
 use lib.IntN.{pos}
@@ -10,7 +10,7 @@ use Rattle.pitch_settings.specs.Settings.{settings_no}
 use Rattle.pitch_settings.specs.SettingsLaws.{accepted_settings}
 use Rattle.track_settings.specs.TrackSettings.{stored_settings}
 use Rattle.track_settings.specs.TrackSettingsLaws.{known}
-use Rattle.track_paper.specs.Paper.{F, paper_row, no_previous}
+use Rattle.track_paper.specs.Paper.{paper_row, no_previous}
 use Rattle.pitch_text.specs.Text.{lines_text}
 use Rattle.pitch_text.specs.TextLaws.{put_then, put_as, rows_taken, lines_taken, lines_same}
 use Rattle.track_text.specs.Program.{samples_left, track_head, track_report}
@@ -27,22 +27,11 @@ left_of m s v e q = e ∙ ap (λ (t : Settings). samples_left t m) q
 pub invariant_of-s : goal.invariant_of-s
 invariant_of-s c = record { analysed = ap settings_no c.stored.ensures ∙ known c.args.recorded.settings (pos 0) c.args.recorded.accepted }
 
-pub samples_left-left-requires : goal.samples_left-left-requires
-samples_left-left-requires c =
-    let e = c.stored.ensures in
-    c.track_rows-frames.ensures.count ∙ ap (λ (s : Settings). F s (length c.args.recorded.samples.now)) (sym e)
-
-pub overflow_cast-frames : goal.overflow_cast-frames
-overflow_cast-frames c = omega (arith, c.track_rows-frames.ensures.count, c.args.recorded.few)
-
 pub overflow_cast-left : goal.overflow_cast-left
 overflow_cast-left c =
     let v = stored_settings c.args.recorded.settings in
     let n = length c.args.recorded.samples.now in
     omega (arith, left_of n _ v c.samples_left-left.ensures c.stored.ensures, left_within v n, few_samples v (known c.args.recorded.settings (pos 0) c.args.recorded.accepted) n c.args.recorded.few)
-
-pub put_head-p-requires : goal.put_head-p-requires
-put_head-p-requires c = omega (arith, c.requires.1)
 
 -- the rows of the track lie in the table
 module _ (c : After-put_head-p) where

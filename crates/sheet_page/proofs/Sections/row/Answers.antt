@@ -39,11 +39,16 @@ module _ (c : Else-verdict-ne0) where
   correlation_at : correlations_at 0 0 + c.args.self.frames + entry_bytes Pairs * c.args.self.voiced + entry_bytes Correlations * c.args.seen ≡ correlation_place c.args.self.page.now c.args.i
   correlation_at = let s = c.args.self in omega (arith, s.frames_read, s.voiced_read, voiced_places.correlation_is)
 
-  pair_room : pairs_at 0 + c.args.self.frames + entry_bytes Pairs * c.args.seen + entry_bytes Pairs ≤ length c.args.self.page.now
-  pair_room = omega (arith, pair_at, voiced_places.pair_within)
-
-  correlation_room : correlations_at 0 0 + c.args.self.frames + entry_bytes Pairs * c.args.self.voiced + entry_bytes Correlations * c.args.seen + entry_bytes Correlations ≤ length c.args.self.page.now
-  correlation_room = omega (arith, correlation_at, voiced_places.correlation_within)
+  -- both lie within the page, which is no longer than the longest sheet
+  bounds :
+      (pairs_at 0 + c.args.self.frames + entry_bytes Pairs * c.args.seen + entry_bytes Pairs ≤ length c.args.self.page.now)
+      × (correlations_at 0 0 + c.args.self.frames + entry_bytes Pairs * c.args.self.voiced + entry_bytes Correlations * c.args.seen + entry_bytes Correlations ≤ length c.args.self.page.now)
+      × (length c.args.self.page.now ≤ sheet_length most_frames most_frames)
+  bounds = (
+    omega (arith, pair_at, voiced_places.pair_within),
+    omega (arith, correlation_at, voiced_places.correlation_within),
+    (let s = c.args.self in small s.page.now (head_means s.page.now s.begins) (sizes_means s.page.now s.sized)),
+  )
 
 pub overflow_add-verdict : goal.overflow_add-verdict
 overflow_add-verdict c = let s = (goal.at.overflow_add-verdict c).Start in omega (arith, within s, size s)
@@ -63,40 +68,40 @@ returns-then-verdict-ne0 c =
     ∙ sym (row_quiet p c.args.i c.if-verdict-ne0.true)
 
 pub overflow_add-pair : goal.overflow_add-pair
-overflow_add-pair c = let g = goal.at.overflow_add-pair c in omega (arith, pair_room g.Else-verdict-ne0, size g.Start)
+overflow_add-pair c = omega (arith, bounds (goal.at.overflow_add-pair c).Else-verdict-ne0)
 
 pub overflow_mul-pair : goal.overflow_mul-pair
-overflow_mul-pair c = let g = goal.at.overflow_mul-pair c in omega (arith, pair_room g.Else-verdict-ne0, size g.Start)
+overflow_mul-pair c = omega (arith, bounds (goal.at.overflow_mul-pair c).Else-verdict-ne0)
 
 pub overflow_add-pair-2 : goal.overflow_add-pair-2
-overflow_add-pair-2 c = let g = goal.at.overflow_add-pair-2 c in omega (arith, pair_room g.Else-verdict-ne0, size g.Start)
+overflow_add-pair-2 c = omega (arith, bounds (goal.at.overflow_add-pair-2 c).Else-verdict-ne0)
 
 pub u16_at-index-requires : goal.u16_at-index-requires
-u16_at-index-requires c = omega (arith, pair_room (goal.at.u16_at-index-requires c).Else-verdict-ne0)
+u16_at-index-requires c = omega (arith, bounds (goal.at.u16_at-index-requires c).Else-verdict-ne0)
 
 pub overflow_add-contour : goal.overflow_add-contour
-overflow_add-contour c = let g = goal.at.overflow_add-contour c in omega (arith, pair_room g.Else-verdict-ne0, size g.Start)
+overflow_add-contour c = omega (arith, bounds (goal.at.overflow_add-contour c).Else-verdict-ne0)
 
 pub bounds-self-pair : goal.bounds-self-pair
-bounds-self-pair c = omega (arith, pair_room (goal.at.bounds-self-pair c).Else-verdict-ne0)
+bounds-self-pair c = omega (arith, bounds (goal.at.bounds-self-pair c).Else-verdict-ne0)
 
 pub overflow_add-self : goal.overflow_add-self
-overflow_add-self c = let g = goal.at.overflow_add-self c in omega (arith, correlation_room g.Else-verdict-ne0, size g.Start)
+overflow_add-self c = omega (arith, bounds (goal.at.overflow_add-self c).Else-verdict-ne0)
 
 pub overflow_mul-self : goal.overflow_mul-self
-overflow_mul-self c = let g = goal.at.overflow_mul-self c in omega (arith, correlation_room g.Else-verdict-ne0, size g.Start)
+overflow_mul-self c = omega (arith, bounds (goal.at.overflow_mul-self c).Else-verdict-ne0)
 
 pub overflow_add-self-2 : goal.overflow_add-self-2
-overflow_add-self-2 c = let g = goal.at.overflow_add-self-2 c in omega (arith, correlation_room g.Else-verdict-ne0, size g.Start)
+overflow_add-self-2 c = omega (arith, bounds (goal.at.overflow_add-self-2 c).Else-verdict-ne0)
 
 pub overflow_mul-seen : goal.overflow_mul-seen
-overflow_mul-seen c = let g = goal.at.overflow_mul-seen c in omega (arith, correlation_room g.Else-verdict-ne0, size g.Start)
+overflow_mul-seen c = omega (arith, bounds (goal.at.overflow_mul-seen c).Else-verdict-ne0)
 
 pub overflow_add-self-3 : goal.overflow_add-self-3
-overflow_add-self-3 c = let g = goal.at.overflow_add-self-3 c in omega (arith, correlation_room g.Else-verdict-ne0, size g.Start)
+overflow_add-self-3 c = omega (arith, bounds (goal.at.overflow_add-self-3 c).Else-verdict-ne0)
 
 pub i32_at-correlation-requires : goal.i32_at-correlation-requires
-i32_at-correlation-requires c = omega (arith, correlation_room (goal.at.i32_at-correlation-requires c).Else-verdict-ne0)
+i32_at-correlation-requires c = omega (arith, bounds (goal.at.i32_at-correlation-requires c).Else-verdict-ne0)
 
 pub returns : goal.returns
 unfolding verdict_in

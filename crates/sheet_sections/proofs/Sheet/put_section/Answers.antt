@@ -27,15 +27,9 @@ overflow_cast-entries c =
 pub put_u32-requires : goal.put_u32-requires
 put_u32-requires c = omega (arith, room (goal.at.put_u32-requires c).Start)
 
-pub overflow_add-end : goal.overflow_add-end
-overflow_add-end c = omega (arith, room (goal.at.overflow_add-end c).Start)
-
 pub loop-i-init : goal.loop-i-init
 unfolding rows_of tabulate section_entries concat
 loop-i-init c = (omega arith, put_none c.put_u32.new.page (c.args.at + count_bytes))
-
-pub get_row-requires : goal.get_row-requires
-get_row-requires c = omega (arith, c.args.self.whole)
 
 pub put_row-end-requires : goal.put_row-end-requires
 put_row-end-requires c =
