@@ -71,6 +71,7 @@ fn all_contours(bytes: &[u8], run: Run, s: LagSettings, index: usize) -> Run
     requires { (s.complexity < 3) × (index ≤ 256) }
 {
     let mut now = run;
+    // Here and below the numbers of a range are the matter: each contour, index and complexity there is.
     for contour in 0..contours_in_use(s.fs_khz, s.nb_subfr, s.complexity) {
         now = pair(bytes, now, s, index, contour);
     }

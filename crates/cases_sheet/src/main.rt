@@ -30,10 +30,25 @@ const PAGE_ROOM: usize = 33000;
 
 const BODY_ROOM: usize = 4 * TABLE_ROOM + PAGE_ROOM;
 
+// The calls that a case may name.
+#[derive(Clone, Copy)]
+enum Call {
+    Write,
+    Read,
+}
+
+// The call of this number; there is no third.
+fn call_of(number: u8) -> Option<Call> {
+    match number {
+        0 => Some(Call::Write),
+        1 => Some(Call::Read),
+        _ => None,
+    }
+}
+
 #[derive(Clone, Copy)]
 struct Case {
-    // 0 write, 1 read
-    call: usize,
+    call: Option<Call>,
     // the refusal's number, or 0
     number: usize,
     settings: Settings,
@@ -191,19 +206,20 @@ fn read_case(body: &[u8], c: Case) -> bool
     read_agrees(body, c, &body[from..end], &mut table[..length])
 }
 
-// Whether the call that the record names agrees; there is no third.
+// Whether the call that the record names agrees.
 fn case_agrees(body: &[u8], c: Case) -> bool
     requires { (c.numbers ≤ table_room) × (c.bytes ≤ page_room) × (body_room ≤ length body.now) }
 {
-    if c.call == 0 {
-        return write_case(body, c);
+    match c.call {
+        Some(Call::Write) => write_case(body, c),
+        Some(Call::Read) => read_case(body, c),
+        None => false,
     }
-    c.call == 1 && read_case(body, c)
 }
 
 fn case_of(head: &[u8]) -> Case {
     Case {
-        call: byte_at(head, 1) as usize,
+        call: call_of(byte_at(head, 1)),
         number: u16_at(head, 2) as usize,
         settings: settings_at(head, 4),
         frames: usize_at(head, 36),

@@ -98,7 +98,8 @@ fn clz_frac_agrees(t: Case) -> bool {
     c.lz == bits_u32(t.said) / 256 && bits_u32(c.frac_q7) == bits_u32(t.said) % 256
 }
 
-// Counts the cases of one operation and prints the line.
+// Counts the cases of one operation and prints the line. An operation is its number here: an enum of the 25 would name each three times more, at its number, its name and what it runs, which
+// `replay_all` has in one line each.
 fn line<W: Write, A: Fn(Case) -> bool>(
     output: &mut W,
     list: &[u8],

@@ -77,6 +77,7 @@ fn print_frames<R: Read, W: Write, E: Write>(
     let mut bytes = room::<u8, LONGEST_RECORD>(0);
     let mut samples = room::<i16, LONGEST_FRAME>(0);
     let mut out = room::<u8, ROW_TEXT_BYTES>(0);
+    // A `for` over a range: it counts records that are read, and no index.
     for _ in 0..EVERY {
         let printed = print_record(input, output, errors, &mut bytes, &mut samples, &mut out)?;
         match printed {
