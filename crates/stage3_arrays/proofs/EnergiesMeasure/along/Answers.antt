@@ -3,9 +3,11 @@ use Rattle.stage3_arrays.specs.ArrayLaws.{running_at}
 use mathlib.Core.Path.{◌≡◌, sym, ap, ◌∙◌}
 use Prim.Native.Nat.{ℕ, ◌+◌, ◌-◌}
 use lib.IntN.{pos}
-use lib.ListN.{replicate}
+use lib.ListN.{get_or, replicate}
+use mir.Val.{to_z, of_z}
+use Rattle.zint.specs.RuleLaws.{zneeds}
 use mir.Syntax.{w16, w32}
-use Rattle.zint.specs.ReadLaws.{r_got, r_elem}
+use Rattle.zint.specs.ReadLaws.{r_got}
 use Rattle.lists.specs.Fill.{filled}
 use Rattle.lists.specs.FillLaws.{filled_none, filled_turn}
 use Rattle.stage3_arrays.specs.Arrays.{running, step}
@@ -25,13 +27,16 @@ loop-i-preserved c =
     let a = c.args in
     let w = a.within.frame.now in
     let i = c.loop-i.i in
-    let g = (r_elem w16 _ c.slide-arg-1.given).val in
-    let k = (r_elem w16 _ c.slide-arg-in-loop-i-1.given).val in
+    let b = a.within.lags.target - a.within.lags.first in
+    let gone = get_or w (b + a.within.lags.len - i) (pos 0) in
+    let come = get_or w (b - i) (pos 0) in
+    let g : to_z w16 (of_z w16 gone) ≡ gone = search zneeds in
+    let k : to_z w16 (of_z w16 come) ≡ come = search zneeds in
     let e = c.loop-i.invariant.1.1.0 in
     let v = (r_got w32 c.slide-energy.type_inv (c.slide-energy.ensures ∙ (λ t. step (e t) (g t) (k t)) ∙ sym (running_at w (a.within.lags.target - a.within.lags.first) a.within.lags.len i c.loop-i.invariant.0))).val in
-    let b : i ≡ i + 1 - 1 = omega arith in (
+    let m : i ≡ i + 1 - 1 = omega arith in (
       omega arith,
-      (omega arith, (v ∙ ap (running w (a.within.lags.target - a.within.lags.first) a.within.lags.len) b, filled_turn (running w (a.within.lags.target - a.within.lags.first) a.within.lags.len) i (replicate 22 (pos 0)) c.loop-i.invariant.1.1.1 v (omega arith))),
+      (omega arith, (v ∙ ap (running w (a.within.lags.target - a.within.lags.first) a.within.lags.len) m, filled_turn (running w (a.within.lags.target - a.within.lags.first) a.within.lags.len) i (replicate 22 (pos 0)) c.loop-i.invariant.1.1.1 v (omega arith))),
     )
 
 pub returns : goal.returns
