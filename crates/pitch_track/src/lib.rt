@@ -38,7 +38,7 @@ pub struct Answered {
     pub track: Track,
 }
 
-// The type of a row's signal: 2 where it is voiced, and else 1.
+// The type of a row's signal: 2 where it is voiced, and else 1. Both are numbers, since a table and a track's state can hold any.
 fn row_type(r: Row) -> i32
     ensures { result ≡ row_type r }
 {
