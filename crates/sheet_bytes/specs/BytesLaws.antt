@@ -1,9 +1,10 @@
 -- Laws of little-endian numbers: bytes and number are each other's inverse, and the steps by which the code takes them apart and puts them together.
-use Rattle.std.specs.Prelude.{◌≡◌, refl, ℕ, zero, suc, ◌+◌, ◌*◌, ◌/◌, ◌%◌, ◌^◌, ◌≤◌, ◌<◌, ℤ, pos, length, get_or, take, drop}
+use Rattle.std.specs.Prelude.{◌≡◌, refl, ℕ, zero, suc, ◌+◌, ◌*◌, ◌/◌, ◌%◌, ◌^◌, ◌≤◌, ◌<◌, ℤ, pos, length, get_or, take, drop, set}
 use Rattle.std.proofs.Common.{sym, ap₂, ◌∙◌, arith, length-drop, drop-cons, drop_at, take_at, get_or-drop, length-take-le, append_assoc, SFits}
 use Rattle.std.proofs.Math.Path.{ap}
 use mathlib.Core.List.{List, [], ◌∷◌, ◌++◌}
-use Rattle.std.proofs.Math.Arith.{digits_div, digits_mod}
+use Rattle.std.proofs.Math.Arith.{digits_div, digits_mod, mod-mul}
+use Rattle.std.proofs.Math.Numerals.{towards_suc}
 use borrow.Rule.Slice.PartMut.{put_mid}
 use Rattle.std.proofs.lemmas.List.Edits.{sets, sets-eq, paste_all}
 use Rattle.std.proofs.lemmas.Slice.{put_mid-paste}
@@ -163,6 +164,25 @@ bytes_4 n =
     let a : n / 65536 ≡ n / 256 / 256 = omega arith in
     let b : n / 16777216 ≡ n / 256 / 256 / 256 = omega arith in
     rw (a, b)
+
+-- the two and the four lowest bytes, written one by one
+small : (x : ℕ) → x < 256 → x % 256 ≡ x
+small x h = omega arith
+
+pub put_2 : (p : List ℕ) (at n : ℕ) → n < 65536 → set (set p at (n % 256)) (at + 1) (n / 256) ≡ sets p at (low_bytes 2 n)
+unfolding low_bytes
+put_2 p at n h =
+    simp towards_suc (ap (set (set p at (n % 256)) (suc at)) (sym (small (n / 256) (omega arith))))
+
+pub put_4 : (p : List ℕ) (at n : ℕ) → n < 4294967296 → sets (sets p at (low_bytes 2 (n % 65536))) (at + 2) (low_bytes 2 (n / 65536)) ≡ sets p at (low_bytes 4 n)
+unfolding low_bytes
+put_4 p at n h =
+    let a : n % 65536 % 256 ≡ n % 256 = omega arith in
+    let m : n % 65536 ≡ n / 256 % 256 * 256 + n % 256 = mod-mul n (omega arith) (omega arith) in
+    let s : n % 65536 / 256 ≡ n / 256 % 256 = ap (λ (x : ℕ). x / 256) m ∙ digits_div (n / 256 % 256) (omega arith) in
+    let b : n % 65536 / 256 % 256 ≡ n / 256 % 256 = ap (λ (x : ℕ). x % 256) s ∙ small (n / 256 % 256) (omega arith) in
+    let c : n / 65536 ≡ n / 256 / 256 = omega arith in
+    simp (towards_suc, a, b, c)
 
 -- the k lowest bytes of a number, written over as many of the page
 pub placed : (k n : ℕ) (p bytes : List ℕ) (at width : ℕ) → bytes ≡ low_bytes k n → width ≡ k → at + k ≤ length p → put_mid at width p bytes ≡ sets p at (low_bytes k n)

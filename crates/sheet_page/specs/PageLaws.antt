@@ -226,6 +226,9 @@ module _ (p : List ℕ) where
         rows = rows_means (and_right (sizes_good p) (rows_good p) k);
       }
 
+  pub good_tests : well_formed p ≡ true → (head_good p ≡ true) × (sizes_good p ≡ true)
+  good_tests h = let g = good h in (head_yes g.head, sizes_yes g.sizes)
+
   pub never_bad : rows_good p ≡ true → (i : ℕ) → i < frames_in p → row_in p i ≡ None → ⊥
   never_bad h i l e = false≢true (sym (rows_no i l e) ∙ h)
 

@@ -11,13 +11,13 @@ use Rattle.refusals.specs.declared.Refusal.{Refusal}
 use Rattle.refusals.specs.Refusals.{told, number_told}
 use Rattle.refusals.specs.RefusalsLaws.{refused_positive}
 use Rattle.pitch_settings.specs.declared.Settings.{Settings}
-use Rattle.pitch_settings.specs.Settings.{settings_no, frame_length}
-use Rattle.pitch_settings.specs.SettingsLaws.{accepted_settings}
+use Rattle.pitch_settings.specs.Settings.{settings_no, held_no, frame_length}
+use Rattle.pitch_settings.specs.SettingsLaws.{accepted_settings, analysed_held}
 use Rattle.pitch_table.specs.declared.Row.{Row}
 use Rattle.pitch_table.specs.Row.{numbers, voiced_row, unpitched_row}
 use Rattle.silk_tables.specs.Tables.{contours, in_use, greatest_lag, greatest_index}
 use Rattle.silk_tables.proofs.TableLaws.{in_use_bounds}
-use Rattle.silk_tables.specs.Rebuild.{CarriedPair}
+use Rattle.silk_tables.specs.Rebuild.{carried, CarriedPair}
 use Rattle.silk_tables.specs.CarriedLaws.{carried_pair, carried_yes}
 use Rattle.silk_resampler.specs.Down23.{source_filter}
 use Rattle.frame_signals.specs.Signals.{down_to_8khz, down_to_4khz}
@@ -36,6 +36,14 @@ pub carried_test : {s : Settings} {v : Verdict} → VerdictCarried s v → pair_
 carried_test (voiced q) = q
 carried_test unvoiced = refl
 carried_test zero_divisor = refl
+
+-- the pair of a voiced verdict, at settings that are analysed: a sheet can hold them, and the code carries it
+pub pair_of : {s : Settings} {v : Verdict} {index contour corr : ℤ} → settings_no s ≡ 0 → VerdictCarried s v → v ≡ Voiced index contour corr
+    → (held_no s ≡ 0) × (carried s.rate s.nb s.complexity index contour ≡ true)
+pair_of {s} {v} {index} {contour} {corr} h p e = (analysed_held s h, by (subst (VerdictCarried s) e p))
+  where
+    by : VerdictCarried s (Voiced index contour corr) → carried s.rate s.nb s.complexity index contour ≡ true
+    by (voiced q) = q
 
 pub pair_carried : (s : Settings) (corr : ℤ) (lag contour : ℕ) → 2 * s.rate ≤ lag → lag ≤ 2 * s.rate + greatest_index s.rate → contour < contours s.rate s.nb s.complexity
     → VerdictCarried s (from_pair s.rate corr (Pair lag contour))

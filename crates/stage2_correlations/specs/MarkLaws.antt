@@ -1,7 +1,7 @@
 -- Laws of the marked lags: the tests by their bounds.
 use Rattle.std.specs.Prelude.{◌≡◌, Bool, true, false, List, ℕ, ◌+◌, ◌*◌, ◌≤◌, ◌<◌, length}
 use Rattle.std.proofs.Math.Path.{refl, ap, ap₂}
-use Rattle.std.proofs.Common.{◌∙◌, le-leb, leb-true}
+use Rattle.std.proofs.Common.{◌∙◌, arith, le-leb, leb-true}
 use Rattle.std.proofs.Math.Bool.{◌&&◌, and-false}
 use Rattle.std.proofs.lemmas.Bool.{lt-leb}
 use Rattle.std.proofs.Math.Dec.{leb}
@@ -25,6 +25,12 @@ module _ (kept : List ℕ) (below above d i : ℕ) where
       by true false p q = refl
       by false u p q = refl
 
+  pub mark_later : d + below < 2 * get_or kept i 0 → mark_near kept below above d i ≡ false
+  mark_later h = mark_no (λ k. omega (arith, h, k.0))
+
+  pub mark_earlier : 2 * get_or kept i 0 + above < d → mark_near kept below above d i ≡ false
+  mark_earlier h = mark_no (λ k. omega (arith, h, k.1))
+
 -- ---- some kept lag, and none
 
 pub near_yes : (kept : List ℕ) (below above d i : ℕ) → i < length kept → mark_near kept below above d i ≡ true → near kept below above d ≡ true
@@ -35,9 +41,12 @@ pub near_no : (kept : List ℕ) (below above d : ℕ) → ((i : ℕ) → i < len
 unfolding near
 near_no kept below above d h = some_false (length kept) (mark_near kept below above d) h
 
--- ---- the ends: a lag above the last, and one between
+-- ---- the ends: a lag below the first, one above the last, and one between
 
 module _ (first last d : ℕ) (t : Bool) where
+  pub too_low : d < first → (leb first d && (leb d last && t)) ≡ false
+  too_low h = ap (λ (u : Bool). u && (leb d last && t)) (lt-leb _ _ h)
+
   pub too_high : last < d → (leb first d && (leb d last && t)) ≡ false
   too_high h = ap (λ (u : Bool). leb first d && (u && t)) (lt-leb _ _ h) ∙ and-false (leb first d)
 
