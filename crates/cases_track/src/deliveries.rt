@@ -8,7 +8,9 @@
 ghost use Rattle.std.specs.Prelude.{◌≡◌, length};
 ghost use Rattle.pitch_recording.specs.Recording.{recording_samples};
 
-use cases_io::{byte_at, i32_at, load, nth, same, same_settings, settings_at, u32_at, usize_at};
+use cases_io::{
+    byte_at, i32_at, load, nth, same, same_settings, settings_at, skip, u32_at, usize_at,
+};
 use pitch_recording::RECORDING_SAMPLES;
 use pitch_settings::LONGEST_FRAME;
 use pitch_table::{MOST_FRAMES, ROW_SIZE};
@@ -22,33 +24,29 @@ use zint::wrapping_sub_i32;
 // What the places of a state hold that are not listed.
 const UNLISTED: i16 = 21845;
 
-// The bytes of a delivery.
-const DELIVERY_BYTES: usize = 21;
-
-// The lists after the state's places, each in its bytes.
-#[derive(Clone, Copy)]
-struct Lists<'a> {
-    samples: &'a [u8],
-    deliveries: &'a [u8],
-    rows: &'a [u8],
-    places: &'a [u8],
+// Where the lists begin, and where the last one ends.
+#[derive(Drop)]
+struct Lists {
+    samples: usize,
+    deliveries: usize,
+    rows: usize,
+    places: usize,
+    end: usize,
 }
 
-// The lists of a body that ends where the last one ends; none where the lists are longer or shorter.
-fn lists_of(body: &[u8]) -> Option<Lists<'_>> {
-    let (_, lists) = body.split_at_checked(114 + 2 * u32_at(body, 62))?;
-    let (samples, lists) = lists.split_at_checked(2 * u32_at(body, 66))?;
-    let (deliveries, lists) = lists.split_at_checked(DELIVERY_BYTES * u32_at(body, 70))?;
-    let (rows, places) = lists.split_at_checked(32 * u32_at(body, 74))?;
-    if places.len() != 2 * u32_at(body, 78) {
-        return None;
-    }
-    Some(Lists {
+fn lists_of(body: &[u8]) -> Lists {
+    let samples = skip(body, 114, 2 * u32_at(body, 62));
+    let deliveries = skip(body, samples, 2 * u32_at(body, 66));
+    let rows = skip(body, deliveries, 21 * u32_at(body, 70));
+    let places = skip(body, rows, 32 * u32_at(body, 74));
+    let end = skip(body, places, 2 * u32_at(body, 78));
+    Lists {
         samples,
         deliveries,
         rows,
         places,
-    })
+        end,
+    }
 }
 
 // The second threshold: the fixed one, or found from the speech.
@@ -114,40 +112,38 @@ fn start_agrees(body: &[u8]) -> bool {
     answer_agrees(started.answer, number, 0)
 }
 
-// Whether a delivery is answered as told, and leaves the frames done and the samples held that are told.
-fn delivery_agrees(told: &[u8], answer: Result<usize, Refusal>, after: &Track) -> bool {
-    let number = byte_at(told, 4) as usize;
-    after.frames == usize_at(told, 5)
-        && after.count == usize_at(told, 13)
+// Whether a delivery is answered as told at `at`, and leaves the frames done and the samples held that are told.
+fn delivery_agrees(body: &[u8], at: usize, answer: Result<usize, Refusal>, after: &Track) -> bool {
+    let number = byte_at(body, skip(body, at, 4)) as usize;
+    after.frames == usize_at(body, skip(body, at, 5))
+        && after.count == usize_at(body, skip(body, at, 13))
         && answer_agrees(answer, number, after.frames)
 }
 
 // Delivers the samples part by part. The state that they leave, or none where an answer is another than the one told.
-fn deliver_all(
-    first: Track,
-    deliveries: &[u8],
-    samples: &[i16],
-    table: &mut [i32],
-) -> Option<Track> {
-    let mut track = first;
-    let mut rest = samples;
-    for told in deliveries.chunks(DELIVERY_BYTES) {
-        let (part, after) = rest.split_at(u32_at(told, 0).min(rest.len()));
+fn deliver_all(body: &[u8], from: usize, samples: &[i16], table: &mut [i32]) -> Option<Track> {
+    let mut track = first_track(body);
+    let mut at = 0;
+    // by number and not by chunks: as many as the body claims, and what it has too few of reads as 0
+    for i in 0..u32_at(body, 70) {
+        let told = skip(body, from, 21 * i);
+        let end = at + u32_at(body, told).min(samples.len() - at);
+        let part = &samples[at..end];
         let delivered = track.deliver(part, table);
         track = delivered.track;
-        if !delivery_agrees(told, delivered.answer, &track) {
+        if !delivery_agrees(body, told, delivered.answer, &track) {
             return None;
         }
-        rest = after;
+        at = end;
     }
     Some(track)
 }
 
-// Whether the places for samples are as told, as many as are listed.
-fn places_agree(places: &[u8], t: Track) -> bool {
+// Whether the places for samples are as told from `at` on, as many as are listed.
+fn places_agree(body: &[u8], at: usize, t: Track) -> bool {
     let held = t.held;
-    let n = (places.len() / 2).min(LONGEST_FRAME);
-    same(places, 0, &held[..n])
+    let n = u32_at(body, 78).min(LONGEST_FRAME);
+    same(body, at, &held[..n])
 }
 
 // Whether the settings are as told; where the threshold is found from the speech, 0 is told for the stored one.
@@ -157,14 +153,14 @@ fn settings_agree(body: &[u8], k: TrackSettings) -> bool {
         && same_settings(k.stored(), settings_at(body, 2))
 }
 
-// Whether the state at the end is as told.
-fn end_agrees(body: &[u8], places: &[u8], t: Track) -> bool {
+// Whether the state at the end is as told, its places from `at` on.
+fn end_agrees(body: &[u8], at: usize, t: Track) -> bool {
     let prev = Prev {
         lag: i32_at(body, 82),
         correlation: i32_at(body, 86),
         signal: i32_at(body, 110),
     };
-    t.prev == prev && settings_agree(body, t.settings) && places_agree(places, t)
+    t.prev == prev && settings_agree(body, t.settings) && places_agree(body, at, t)
 }
 
 // What number i of the table is before any row is written: no row has such a number, and no two are alike.
@@ -183,44 +179,42 @@ fn blank_table() -> [i32; 32800]
     table
 }
 
-// Number i of the table at the end: that of a finished row, where the first of these is number `first`, or as it was.
-fn number_told(rows: &[u8], first: usize, i: usize) -> i32 {
-    match i.checked_sub(first) {
-        Some(k) if k < rows.len() / 4 => nth(rows, 0, k),
-        _ => blank(i),
+// Number i of the table at the end: that of a finished row, where it is from `first` to `end`, or as it was. The two ends are places and no switch; a range's `contains` says no more.
+fn number_told(body: &[u8], rows: usize, first: usize, end: usize, i: usize) -> i32 {
+    if i < first || i >= end {
+        return blank(i);
     }
+    nth(body, rows, i - first)
 }
 
-fn table_agrees(body: &[u8], rows: &[u8], table: &[i32]) -> bool {
+fn table_agrees(body: &[u8], rows: usize, table: &[i32]) -> bool {
     let first = ROW_SIZE * usize_at(body, 34).min(MOST_FRAMES);
-    table
-        .iter()
-        .enumerate()
-        .all(|(i, number)| *number == number_told(rows, first, i))
+    let end = first + ROW_SIZE * u32_at(body, 74);
+    table.iter().enumerate().all(|(i, number)| *number == number_told(body, rows, first, end, i))
 }
 
-// The samples that are delivered: those listed, and then zeros.
-fn samples_of(listed: &[u8]) -> [i16; RECORDING_SAMPLES]
+// The samples that are delivered: those listed from `at` on, and then zeros.
+fn samples_of(body: &[u8], at: usize) -> [i16; RECORDING_SAMPLES]
     ensures { recording_samples ≡ length result }
 {
     let mut samples = room::<i16, RECORDING_SAMPLES>(0);
-    load(listed, 0, &mut samples);
+    let n = u32_at(body, 66).min(RECORDING_SAMPLES);
+    load(body, at, &mut samples[..n]);
     samples
 }
 
-// Whether the deliveries are answered, and leave state and table, as the body tells.
-pub fn agrees(body: &[u8]) -> bool {
-    let Some(lists) = lists_of(body) else {
-        return false;
-    };
+// Whether the deliveries are answered, and leave state and table, as the body tells. Its size stands beside the slice, which is the whole buffer: a body can claim longer lists than it has, and
+// what it has too few of reads as 0.
+pub fn agrees(body: &[u8], size: usize) -> bool {
     let numbers = u32_at(body, 58).min(32800);
-    let samples = samples_of(lists.samples);
-    let first = first_track(body);
+    let p = lists_of(body);
+    let samples = samples_of(body, p.samples);
     let mut table = blank_table();
-    let Some(track) = deliver_all(first, lists.deliveries, &samples, &mut table[..numbers]) else {
+    let Some(track) = deliver_all(body, p.deliveries, &samples, &mut table[..numbers]) else {
         return false;
     };
-    start_agrees(body)
-        && end_agrees(body, lists.places, track)
-        && table_agrees(body, lists.rows, &table)
+    p.end == size
+        && start_agrees(body)
+        && end_agrees(body, p.places, track)
+        && table_agrees(body, p.rows, &table)
 }

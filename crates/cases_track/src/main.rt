@@ -42,7 +42,7 @@ fn record_agrees<R: Read>(input: &mut R, holds: Body, size: usize) -> io::Result
     }
     match holds {
         Body::Text(head) => Ok(text::agrees(head, &body, size)),
-        Body::Deliveries => Ok(deliveries::agrees(&body[..size])),
+        Body::Deliveries => Ok(deliveries::agrees(&body, size)),
     }
 }
 
