@@ -50,6 +50,7 @@ fn lists_of(body: &[u8]) -> Lists {
 }
 
 // The second threshold: the fixed one, or found from the speech.
+// The kind is the list's number, read here and where the settings are compared.
 fn second_of(body: &[u8]) -> SecondThreshold {
     if i32_at(body, 90) == 0 {
         return SecondThreshold::Fixed(i32_at(body, 30));
@@ -96,6 +97,7 @@ fn first_track(body: &[u8]) -> Track {
 }
 
 // Whether an answer has the number told, and the frames where it is no refusal.
+// A number, as the list has it; 0 is no refusal.
 fn answer_agrees(answer: Result<usize, Refusal>, number: usize, frames: usize) -> bool {
     match answer {
         Ok(done) => number == 0 && done == frames,

@@ -28,6 +28,7 @@ pub const RECORD_HEAD: usize = CORRELATION_AT + 4;
 pub const LONGEST_RECORD: usize = RECORD_HEAD + 2 * LONGEST_FRAME;
 
 // How long a text is, and what it says of its record: nothing but its row, or a refusal.
+// A length: the text stands in the caller's bytes, since nothing allocates.
 #[derive(Clone, Copy)]
 pub struct Line {
     pub len: usize,

@@ -47,6 +47,7 @@ pub fn subframes_known(nb: usize) -> bool
 }
 
 // The first refusal that applies, given whether the complexity is known.
+// A flag, since the two kinds of settings say for themselves which complexities they know; it is judged last.
 fn check(rate: usize, nb: usize, known: bool) -> Result<(), Refusal>
     ensures { number_told result ≡ settings_refusal rate nb known }
 {
@@ -75,6 +76,7 @@ impl Settings {
     }
 
     // The settings as ones that a sheet can hold, or the refusal.
+    // Beside `analysed` and not one generic method: the two are defined apart and agree in the test only as long as their definitions do.
     #[tactic(auto, unfolding(crate::specs::Settings::held_no))]
     pub fn held(self) -> Result<Held, Refusal>
         ensures number { number_told result ≡ held_no self }

@@ -34,6 +34,7 @@ pub struct Row {
     // Q15
     pub correlation: i32,
     // the lag of each subframe, in samples; 0 where there is none
+    // four fields and no array: customers and definitions name them
     pub lag0: i32,
     pub lag1: i32,
     pub lag2: i32,

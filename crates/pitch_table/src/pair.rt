@@ -37,6 +37,7 @@ impl Pair {
     }
 
     // The lag of subframe k that the pair stands for, or 0 where the frame has no subframe k.
+    // 0 and no Option: it is what a row has there.
     pub fn lag(self, k: usize) -> i32
         ensures { result ≡ pair_lag self.settings.settings self.index self.contour k }
     {

@@ -77,6 +77,7 @@ fn letter(verdict: i32) -> u8
 }
 
 // A row as a line, with the lags of nb subframes.
+// Any count up to 4, here and below, as was promised: settings would ask more of callers.
 pub fn put_row_text(out: &mut [u8], at: usize, nb: usize, r: Row) -> usize
     requires { (nb ≤ 4) × (at + row_text_bytes ≤ length out.old) }
     ensures { Put out.old at (row_text nb r) result out.new × (result ≤ at + row_text_bytes) }
@@ -111,6 +112,7 @@ pub fn put_lines(out: &mut [u8], at: usize, nb: usize, rows: &[i32]) -> usize
 }
 
 // `refused` and a number.
+// Any number, as was promised; `put_refusal` hands over a refusal's.
 pub fn put_refused(out: &mut [u8], at: usize, n: u32) -> usize
     requires { at + refused_bytes ≤ length out.old }
     ensures { Put out.old at (refused_text n) result out.new × (result ≤ at + refused_bytes) }

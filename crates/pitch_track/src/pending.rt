@@ -10,6 +10,7 @@ use silk_pitch_analysis::{Previous, analysed_row};
 use track_paper::Prev;
 
 // What is not yet analysed: the samples held, and those delivered, which follow them.
+// Two slices: nothing allocates, so they are never joined.
 #[derive(Clone, Copy)]
 pub struct Pending<'a> {
     pub held: &'a [i16],
@@ -42,6 +43,7 @@ impl Pending<'_> {
     {
         let length = s.frame_length();
         let frame = self.window(from, length);
+        // field by field: neither type's crate knows the other
         let prev = Previous {
             lag: before.lag,
             correlation: before.correlation,

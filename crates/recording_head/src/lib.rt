@@ -60,6 +60,7 @@ pub fn head_size(head: Head) -> usize
 }
 
 // What the thresholds are found from, in the four bytes from `at` on.
+// By the place, since the definitions of a head go by places.
 fn speech_in(bytes: &[u8], at: usize) -> Speech
     requires { at + 4 ≤ length bytes.now }
     ensures { result ≡ speech_in bytes.now at }

@@ -6,6 +6,7 @@ ghost use Rattle.std.proofs.lemmas.List.Edits.{sets};
 ghost use Rattle.sheet_bytes.specs.Bytes.{low_bytes, number_at, signed, signed_at};
 
 // The unsigned number in the two bytes from `at` on.
+// A function for each width, here and below: `from_le_bytes` and `to_le_bytes` are each type's own, and a trait would repeat them at its impls.
 pub fn u16_at(page: &[u8], at: usize) -> u16
     requires { at + 2 ≤ length page.now }
     ensures { result ≡ number_at 2 page.now at }

@@ -137,6 +137,7 @@ pub fn sheet_length(frames: usize, voiced: usize) -> usize
 }
 
 // The settings as numbers, in their order on the page.
+// No `From`: neither the settings nor an array is this crate's own type.
 pub fn setting_numbers(settings: Held) -> [i32; SETTINGS_COUNT]
     ensures { result ≡ setting_numbers settings.settings }
 {

@@ -46,6 +46,7 @@ fn put_report(out: &mut [u8], settings: Held, rows: &[i32]) -> usize
 
 // The text for an input that begins with these bytes, in the first bytes of `out`; how many they are. `more` says whether bytes follow: then these are as many as the longest
 // sheet has. The sheet's rows are left in the first rows of `table`, by a refusal nothing; all else stays.
+// Whether bytes follow is a fact about the input, and a flag as was promised.
 pub fn sheet_text(input: &[u8], more: bool, table: &mut [i32], out: &mut [u8]) -> usize
     requires { (more ≡ true → sheet_length most_frames most_frames ≤ length input.now) × (most_frames * row_size ≤ length table.old) × (sheet_text_bytes ≤ length out.old) }
     ensures by_index { (rest : List ℕ) → ltb 0 (length rest) ≡ more → sheet_printed result out.new table.new ≡ sheet_text_call (input.now ++ rest) out.old table.old }

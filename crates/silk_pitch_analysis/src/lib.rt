@@ -26,6 +26,7 @@ use stage2::search_stage2;
 use stage3::search_stage3;
 
 // A frame's verdict, and a voiced frame's pair and correlation (Q15).
+// An enum of three cases and no Result: that a frame has no pitch is an answer to customers and no failure, and the definitions go by the three.
 #[derive(Clone, Copy)]
 pub enum Verdict {
     Voiced {

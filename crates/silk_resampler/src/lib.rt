@@ -136,6 +136,7 @@ const RESAMPLER_MAX_BATCH_SIZE_IN: usize = 480;
 const ORDER_FIR: usize = 4;
 
 // Four neighbours of buf from p on by four coefficients, rounded by shift bits and held within 16.
+// The four coefficients stand one by one, as the source names them.
 fn weighted_output(buf: &[i32], p: usize, c: i16, d: i16, e: i16, f: i16, shift: u32) -> i16
     requires { (p + 4 ≤ length buf.now) × ((0 < shift) × (shift < 31)) }
     ensures { result ≡ rounded shift (weighted c d e f (sample buf.now) p) }
@@ -157,6 +158,7 @@ fn even_output(buf: &[i32], m: usize, filter: Filter) -> i16
 }
 
 // Output 2m + 1: the same coefficients from the other end.
+// Not one function with a flag: place, order of the coefficients and rounding all differ.
 fn odd_output(buf: &[i32], m: usize, filter: Filter) -> i16
     requires { 3 * m + 5 ≤ length buf.now }
     ensures { result ≡ odd_out filter (sample buf.now) m }

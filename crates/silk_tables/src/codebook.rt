@@ -26,6 +26,7 @@ pub struct OffsetRange {
     pub high: i32,
 }
 
+// A subframe is a plain index, with its bound at each method: a type for it would be made anew at each.
 impl Codebook {
     // What each contour adds to the lag in subframe k; 0 where the book has no such contour. A lookup takes the whole table along, so a search over contours asks for
     // the row once.

@@ -1,5 +1,6 @@
 // RFC 6716, section 4.2.7.6.1: the lags that a lag index and a contour index stand for, in that text's sequence. Nothing here is ported: the source assembles its lags
 // in pitch_analysis.rs, and `specs/RebuildLaws.antt` shows that they are these.
+// They take plain numbers and no settings, since `rebuilt_lag` answers for any; `Pair` (pitch_table) keeps what was found.
 ghost use Rattle.std.specs.Prelude.{◌≡◌, [], ◌∷◌, ◌⊎◌, ◌<◌, ◌≤◌, nat_abs};
 ghost use Rattle.answers.specs.Answer.{answer_numbers};
 ghost use Rattle.silk_tables.specs.Rebuild.{lag_max, book_entries, book, rebuilt, Coded, carried, rebuild_call, rebuilt_numbers, rebuilt_number};

@@ -44,6 +44,7 @@ pub struct BestLag {
 }
 
 // The lag and the correlation of the frame before.
+// A lag that is not positive says that there was none: any number can be handed in, as in the source.
 #[derive(Clone, Copy)]
 pub struct Previous {
     pub lag: i32,
@@ -61,6 +62,7 @@ pub struct LagSearch {
 }
 
 // The previous lag at 8 kHz.
+// The rate is a number, which is also reckoned with.
 fn previous_8khz(fs_khz: usize, prev_lag: i32) -> i32
     ensures { result ≡ prev_8khz fs_khz prev_lag }
 {
@@ -87,6 +89,7 @@ fn distance_q7(lag_log2_q7: i32, prev_lag_log2_q7: i32) -> i32
 }
 
 // What a lag is marked down by for its distance from the previous lag.
+// Any count up to 4: the steps are defined for each of them.
 fn prev_lag_bias(nb_subfr: usize, prev_corr: i32, delta_lag_log2_sqr_q7: i32) -> i32
     requires { (nb_subfr ≤ 4) × ((pos 0 ≤ℤ delta_lag_log2_sqr_q7) × (delta_lag_log2_sqr_q7 ≤ℤ pos 8388608)) }
     ensures { result ≡ prev_bias nb_subfr prev_corr delta_lag_log2_sqr_q7 }

@@ -15,6 +15,7 @@ pub struct KeptLags<'a> {
     pub ghost kept: { Kept lags.now },
 }
 
+// A lag is a plain number, with its bound at each method: a type for it would be made anew at each turn of the search.
 impl KeptLags<'_> {
     // Whether d lies from v - below to v + above for the double v of a kept lag.
     fn is_near(self, d: usize, below: usize, above: usize) -> bool

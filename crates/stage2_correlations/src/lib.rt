@@ -51,6 +51,7 @@ fn correlate(marked: bool, frame_8khz: &[i16], target: usize, d: usize, norm: i3
 
 // The correlations of subframe k at the marked lags among 14 to 145 (132 places, the source's CSTRIDE_8KHZ; lag 145 can be read and is never measured), and 0 at the others.
 // Where a divisor that is reached is zero they are an error's, with 0 at each lag whose divisor it is.
+// The error has the correlations too, since all 132 were promised where a divisor is zero as well; so the loop goes on, and a flag stands beside them in it.
 pub fn subframe_row(
     frame_8khz: &[i16],
     k: usize,

@@ -18,6 +18,7 @@ pub struct Prev {
 }
 
 // How many frames a track may have, and how a delivery that would make more is refused: with a refusal, or with any number of the caller's own.
+// A type parameter, since both were promised: a refusal alone would ask more of callers.
 #[derive(Clone, Copy, PartialEq, Eq)]
 pub struct Limit<R> {
     pub frames: usize,
@@ -35,6 +36,7 @@ pub fn track_limit() -> Limit<Refusal>
 }
 
 // What was said of a start or a delivery, as one number: 0, or the refusal's.
+// Nothing here calls it: it stays, since it was promised.
 pub fn answer_number(answer: Result<usize, Refusal>) -> usize
     ensures { result ≡ answer_no (told answer) }
 {

@@ -33,6 +33,7 @@ pub struct Delivery {
 }
 
 // What speaks against a delivery: the limit on the frames, whose refusal the caller names, or one of the refusals.
+// An enum of its own, made by `?`: an Option of a refusal would not say that None is the limit.
 #[derive(Clone, Copy)]
 enum Objection {
     OverLimit,
@@ -98,6 +99,7 @@ impl Delivery {
     }
 
     // The number of the delivery's refusal, or 0: the same, where the limit says any number in place of a refusal.
+    // Any number, as was promised: a refusal in its place would ask more of callers.
     pub fn refusal_number(self, limit: Limit<usize>, k: TrackSettings) -> usize
         requires { limit.frames ≤ most_frames }
         ensures { result ≡ delivery_refusal limit k self.signal_type self.frames self.count self.samples self.numbers }
