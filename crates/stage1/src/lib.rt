@@ -19,6 +19,7 @@ use half_frame::HalfFrame;
 use pitch_settings::Settings;
 use silk_macros::{silk_smlawb, silk_smulwb};
 use silk_sort::silk_insertion_sort_decreasing_int16;
+use std::array;
 use zint::as_i16;
 
 // The lags at 4 kHz.
@@ -28,24 +29,20 @@ const MAX_LAG_4KHZ: usize = 72;
 
 const CSTRIDE_4KHZ: usize = MAX_LAG_4KHZ + 1 - MIN_LAG_4KHZ;
 
-// A lag's score: the summed correlation, marked down for the lag.
-fn biased(sum: i32, lag: usize) -> i16
+// A lag's score: the sum of its two correlations, marked down for the lag.
+fn biased(first: i16, second: i16, lag: usize) -> i16
     requires { lag ≤ 72 }
-    ensures { result ≡ biased1 sum lag }
+    ensures { result ≡ biased1 (first +ℤ second) lag }
 {
+    let sum = first as i32 + second as i32;
     as_i16(silk_smlawb(sum, sum, 0 - (16 * lag) as i32))
 }
 
-// The scores from the correlations of two half-frames. By the lag's place, since the lag itself counts in its score.
+// The scores from the correlations of two half-frames.
 fn combine(first: &[i16; 65], second: &[i16; 65]) -> [i16; 65]
     ensures { result ≡ tabulate (λ (i : ℕ). biased1 (sample first.now i +ℤ sample second.now i) (8 + i)) 65 }
 {
-    let mut c_combined = [0i16; CSTRIDE_4KHZ];
-    for i in 0..CSTRIDE_4KHZ {
-        let sum = first[i] as i32 + second[i] as i32;
-        c_combined[i] = biased(sum, MIN_LAG_4KHZ + i);
-    }
-    c_combined
+    array::from_fn(|i| biased(first[i], second[i], MIN_LAG_4KHZ + i))
 }
 
 // The scores of all lags; none where a divisor is zero. The only half-frame of two subframes counts twice.
