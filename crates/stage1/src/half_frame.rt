@@ -16,8 +16,8 @@ const SF_LENGTH_4KHZ: usize = 20;
 
 const SF_LENGTH_8KHZ: usize = 40;
 
-// The quotients' low 16 bits, by lag; none where a divisor is zero. By the lag's place: one of the three arrays runs backwards, and of what an adapter over `iter_mut` writes
-// a proof knows nothing.
+// The quotients' low 16 bits, by lag; none where a divisor is zero. By the lag's place: one of the three arrays runs backwards, of what an adapter over `iter_mut` writes a proof
+// knows nothing, and `try_from_fn` doesn't say that the closure it called was this one.
 fn quotients(xcorr32: &[i32; 65], normalizers: &[i32; 65]) -> Option<[i16; 65]>
     ensures { result ≡ quotients xcorr32.now normalizers.now }
 {
@@ -76,7 +76,8 @@ impl HalfFrame<'_> {
         wrapping_add_i32(normalizer, silk_smulbb(SF_LENGTH_8KHZ as i32, 4000))
     }
 
-    // The normalisers. By the lag's place i, from which both samples' places follow: by iterators two parts of the frame would run backwards, and the array be written by its place all the same.
+    // The normalisers. By the lag's place, from which both samples' places follow: by iterators two parts of the frame would run backwards, and the array would still be written
+    // by its place.
     fn normalizers(self) -> [i32; 65]
         ensures { result ≡ tabulate (λ (i : ℕ). divisor1 self.entry.frame_4khz.now self.entry.h (8 + i)) 65 }
     {
