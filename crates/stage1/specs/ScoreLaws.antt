@@ -1,5 +1,5 @@
 -- Laws of stage 1's correlations and scores.
-use Rattle.std.specs.Prelude.{Option, Some, None, ◌≡◌, refl, Bool, true, ◌⊎◌, ℕ, suc, ◌+◌, ◌-◌, ◌*◌, ◌/◌, ◌≤◌, ◌<◌, ℤ, pos, ◌-ℤ◌, ◌*ℤ◌, length, drop, replicate}
+use Rattle.std.specs.Prelude.{Option, Some, None, ◌≡◌, refl, Bool, true, ◌⊎◌, ℕ, suc, ◌+◌, ◌-◌, ◌*◌, ◌/◌, ◌≤◌, ◌<◌, ℤ, pos, ◌-ℤ◌, ◌*ℤ◌, drop, replicate}
 use Rattle.std.proofs.Math.Path.{sym, ap, ap₂}
 use Rattle.std.proofs.Common.{◌∙◌, ⊎_elim, lit<, lit≤, drop-drop}
 use Rattle.std.proofs.Math.Bool.{false, cond}
@@ -111,10 +111,7 @@ module _ (f : List ℤ) (h : ℕ) where
 
 -- ---- the scores
 
--- there is one half-frame or there are two, within the signal
-pub first_fits : {nb : ℕ} (f : List ℤ) → (nb ≡ 2) ⊎ (nb ≡ 4) → (20 + 5 * nb) * 4 ≤ length f → 120 ≤ length f
-first_fits {nb} f s l = ⊎_elim (λ (e : nb ≡ 2). omega arith) (λ (e : nb ≡ 4). omega arith) s
-
+-- there is one half-frame or there are two
 pub one_or_two : {nb : ℕ} → (nb ≡ 2) ⊎ (nb ≡ 4) → (nb ≡ 4 → ⊥) → nb ≡ 2
 one_or_two s g = ⊎_elim (λ e. e) (λ e. absurd (g e)) s
 

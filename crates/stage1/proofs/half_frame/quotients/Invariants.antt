@@ -3,7 +3,7 @@ use Rattle.std.proofs.Common.{◌≡◌, false, ℕ, ◌≤◌, ◌<◌, pos, re
 use Rattle.lists.specs.Fill.{filled}
 use Rattle.silk_macros.specs.Divide.{by_zero, low16_of}
 use Rattle.stage1.specs.Steps.{quotient_at}
-use Rattle.stage1.proofs.quotients.Given as goal
+use Rattle.stage1.proofs.half_frame.quotients.Given as goal
 
 abbrev pub invariant-loop-i : goal.invariant-loop-i
 invariant-loop-i l =

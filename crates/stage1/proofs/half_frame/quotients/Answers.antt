@@ -11,7 +11,7 @@ use Rattle.silk_macros.specs.Divide.{quotient, by_zero, low16_of}
 use Rattle.stage1.specs.Steps.{quotient_at}
 use Rattle.stage1.specs.ScoreLaws.{a_divisor_zero, no_divisor_zero, value_low}
 use Rattle.zint.specs.RuleLaws.{zneeds}
-use Rattle.stage1.proofs.quotients.Goals as goal
+use Rattle.stage1.proofs.half_frame.quotients.Goals as goal
 
 pub loop-i-init : goal.loop-i-init
 loop-i-init c = (omega arith, (λ k h. absurd (omega arith), filled_none _ _))
