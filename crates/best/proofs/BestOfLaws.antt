@@ -1,8 +1,5 @@
 -- `best` is the one number that is best by comparison, and there is one unless there is no candidate. `Search` is the state of a search from the front.
-use Rattle.std.specs.Prelude.{◌≡◌, Bool, ◌||◌, ℕ, zero, suc, ◌+◌, ◌<◌, ℤ, ◌≤ℤ◌, ◌<ℤ◌}
-use Rattle.std.proofs.Math.Path.{refl, ap, ap₂}
-use Rattle.std.proofs.Common.{sym, ◌∙◌, subst, true≢false, ⊎_elim, arith, add-one, below_more}
-use Rattle.std.proofs.Math.Bool.{true, false, not, ◌&&◌}
+use Rattle.std.proofs.Common.{sym, ◌∙◌, subst, true≢false, ⊎_elim, arith, add-one, below_more, ◌≡◌, Bool, ◌||◌, ℕ, zero, suc, ◌+◌, ◌<◌, ℤ, ◌≤ℤ◌, ◌<ℤ◌, refl, ap, ap₂, true, false, not, ◌&&◌}
 use Rattle.std.specs.Int.Signed.{le_z, clash_ℤ, ≤ℤ_refl}
 use Rattle.zint.specs.OrderLaws.{order, <ℤ_weak, ≤ℤ-<ℤ_trans, le_yes, le_no}
 use Rattle.best.specs.Best.{every, Place, none, at, highest, best, BestOf}

@@ -1,7 +1,6 @@
 -- What replaying cases counts, in words of 64 bits that go round at 2 ^ 64, and whether two settings are the same. Definitions only; the laws are in `CountsLaws`.
-use Rattle.std.specs.Prelude.{ℕ, ◌+◌, ◌%◌, ◌^◌, Bool, true, cond, ◌&&◌, List, ◌==◌, slice_index_or, slice_set}
+use Rattle.std.specs.Prelude.{ℕ, ◌+◌, ◌%◌, ◌^◌, Bool, true, cond, ◌&&◌, List, ◌==◌, slice_index_or, slice_set, sum_by}
 use Rattle.std.specs.Ordering.{int_eq}
-use Rattle.std.specs.List.{sum_by}
 use Rattle.pitch_settings.specs.declared.Settings.{Settings}
 use Rattle.cases_io.specs.declared.Tally.{Tally}
 

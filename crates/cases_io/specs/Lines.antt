@@ -1,7 +1,5 @@
 -- What replaying cases prints. Definitions only.
-use Rattle.std.specs.Prelude.{ℕ, zero, suc, ◌++◌, ◌∷◌, [], List, length, slice_index_or}
-use Rattle.std.specs.Fmt.{decimal}
-use lib.Chars.{codes}
+use Rattle.std.specs.Prelude.{ℕ, zero, suc, ◌++◌, ◌∷◌, [], List, length, slice_index_or, decimal, codes}
 use Rattle.cases_io.specs.declared.Tally.{Tally}
 use Rattle.cases_io.specs.Counts.{tally, totals_of}
 

@@ -1,10 +1,8 @@
 -- Laws of the lines that are printed: one kind's line more, and the line for all.
-use Rattle.std.specs.Prelude.{◌≡◌, ℕ, ◌+◌, List, [], ◌++◌, length, Option, Result, OnOk, slice_index_or, refl, Ok, Err}
-use Rattle.std.specs.Io.KnownBytes.{Appends}
-use Rattle.std.specs.Fmt.{decimal}
+use Rattle.std.specs.Prelude.{◌≡◌, ℕ, ◌+◌, List, [], ◌++◌, length, Option, Result, OnOk, slice_index_or, refl, Ok, Err, decimal, codes}
 use Rattle.std.proofs.Common.{add-one, subst}
+use Rattle.std.specs.Io.KnownBytes.{Appends}
 use Rattle.std.proofs.KnownBytes.{Appends-trans}
-use lib.Chars.{codes}
 use Rattle.cases_io.specs.declared.Tally.{Tally}
 use Rattle.cases_io.specs.Counts.{tally, totals_of}
 use Rattle.cases_io.specs.Lines.{tally_line, kind_line, kind_lines, report_text}

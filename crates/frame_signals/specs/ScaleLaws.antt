@@ -1,8 +1,6 @@
 -- Laws of the working frame: what the scratch or the frame holds is the frame scaled, and its length.
-use Rattle.std.specs.Prelude.{◌≡◌, refl, Bool, true, false, cond, List, eqb, ℤ, pos, negsuc, length, take}
-use Rattle.std.proofs.Common.{sym, ◌∙◌, arith, eq-eqb, ne_eqb, length-take-le, get_or-take}
-use Rattle.std.proofs.Math.Path.{ap}
-use Prim.Native.Nat.{ℕ, zero, suc, ◌^◌, ◌≤◌, ◌<◌}
+use Rattle.std.specs.Prelude.{◌≡◌, refl, Bool, true, false, cond, List, eqb, ℤ, pos, negsuc, length, take, ℕ, zero, suc, ◌^◌, ◌≤◌, ◌<◌}
+use Rattle.std.proofs.Common.{sym, ◌∙◌, arith, eq-eqb, ne_eqb, length-take-le, get_or-take, ap}
 use Rattle.std.specs.Int.Signed.{shr_z}
 use Rattle.lists.specs.Fill.{tabulate, filled}
 use Rattle.lists.specs.FillLaws.{take_filled, tabulate_is, tabulate_ext, length_tabulate}

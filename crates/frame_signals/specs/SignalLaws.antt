@@ -1,10 +1,7 @@
 -- Laws of the signals at 8 and 4 kHz: their lengths, one turn of the two-tap sum, and buffers that hold them.
-use Rattle.std.specs.Prelude.{◌≡◌, Bool, cond, ◌⊎◌, ℕ, zero, suc, ◌+◌, ◌-◌, ◌*◌, ◌/◌, ◌≤◌, ◌<◌, eqb, ℤ, pos, ◌+ℤ◌, drop, set}
-use Rattle.std.proofs.Math.Path.{refl, ap, ap₂}
-use Rattle.std.proofs.Common.{sym, ◌∙◌, inl, inr, arith, eq-eqb, ne_eqb}
-use mathlib.Core.List.{List, ◌++◌}
-use Rattle.std.proofs.Math.ListN.{length, get_or, get_or-append}
-use Rattle.std.proofs.Math.Seq.{drop_at}
+use Rattle.std.specs.Prelude.{◌≡◌, Bool, cond, ◌⊎◌, ℕ, zero, suc, ◌+◌, ◌-◌, ◌*◌, ◌/◌, ◌≤◌, ◌<◌, eqb, ℤ, pos, ◌+ℤ◌, drop, set, refl, List, ◌++◌, length, get_or}
+use Rattle.std.proofs.Common.{sym, ◌∙◌, inl, inr, arith, eq-eqb, ne_eqb, ap, ap₂, drop_at}
+use Rattle.std.proofs.Math.ListN.{get_or-append}
 use Rattle.std.proofs.lemmas.List.{set-get_or}
 use Rattle.std.specs.Int.{w16}
 use Rattle.zint.specs.Clamp.{sat}

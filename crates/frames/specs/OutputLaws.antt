@@ -1,11 +1,11 @@
 -- Laws of what is printed: the record that two reads bring, its line, and the lines of a loop over records.
 use Rattle.std.specs.Prelude.{◌≡◌, List, [], ◌++◌, ℕ, suc, ◌+◌, ◌-◌, ◌<◌, ◌≤◌, ℤ, length, take, drop, Option, None, Some, IfSome, refl}
+use Rattle.std.proofs.Common.{sym, ap, ◌∙◌, subst, append_assoc, append-nil, length-append, length-take-le, eq-eqb, ne_eqb, take_all, arith, take_at, drop_at}
 use Rattle.std.specs.Io.KnownBytes.{Appends, Consumes, IsAtEnd}
-use Rattle.std.proofs.Common.{sym, ap, ◌∙◌, subst, append_assoc, append-nil, length-append, length-take-le, eq-eqb, ne_eqb, take_all, arith}
 use Rattle.std.proofs.KnownBytes.{Appends-nil, Appends-trans}
 use Rattle.std.proofs.Math.Decide.{dec_lt}
+use Rattle.std.proofs.Math.Seq.{take-append-le, take-append-add}
 use borrow.Rule.Slice.PartMut.{put_mid}
-use lib.Seq.{take_at, drop_at, take-append-le, take-append-add}
 use Rattle.lists.specs.PushLaws.{take_overwritten}
 use Rattle.recording_io.specs.FilledLaws.{take_more}
 use Rattle.refusals.specs.Refusals.{number_told}

@@ -1,7 +1,7 @@
 -- Laws of a record's text: the refusal's number by cases, what a record that is not refused has, its text, and the whole outcome.
 use Rattle.std.specs.Prelude.{Result, Ok, Err, IsErr, ◌≡◌, refl, Bool, true, false, cond, List, ℕ, ◌+◌, ◌*◌, ◌≤◌, ◌<◌, ltb, eqb, ℤ, length}
-use Rattle.std.proofs.Common.{sym, arith}
-use borrow.Author.Tests.{lt-ltb, le-ltb, ne_eqb, ltb-false, eqb-true, eqb-false}
+use Rattle.std.proofs.Common.{sym, arith, lt-ltb, le-ltb, ne_eqb, ltb-false, eqb-true}
+use Rattle.std.proofs.lemmas.Bool.{eqb-false}
 use Rattle.lists.specs.Fill.{overwritten}
 use Rattle.pitch_settings.specs.declared.Settings.{Settings}
 use Rattle.pitch_settings.specs.Settings.{settings_no, frame_length}

@@ -1,12 +1,8 @@
 -- A list whose places from i up to n are given by a rule, which is what a loop that counts down and stores one element a turn leaves.
-use Rattle.std.specs.Prelude.{◌≡◌, length, get_or}
-use Rattle.std.proofs.Math.Path.{refl, sym, ap, ap₂}
-use Rattle.std.proofs.Common.{◌∙◌, length-append, length-drop, take-append-drop, take-suc}
-use mathlib.Core.List.{List, [], ◌∷◌, ◌++◌}
-use Prim.Native.Nat.{ℕ, zero, suc, ◌+◌, ◌-◌, ◌<◌, ◌≤◌}
-use native.Mathlib.Omega.{arith}
-use Rattle.std.proofs.Math.ListN.{take, drop, set, get_or-append}
-use Rattle.std.proofs.Math.Seq.{set_at, append_snoc, get_or-take, length-take-le}
+use Rattle.std.specs.Prelude.{◌≡◌, length, get_or, refl, List, [], ◌∷◌, ◌++◌, ℕ, zero, suc, ◌+◌, ◌-◌, ◌<◌, ◌≤◌, take, drop, set}
+use Rattle.std.proofs.Common.{◌∙◌, length-append, length-drop, take-append-drop, take-suc, sym, ap, ap₂, arith, get_or-take, length-take-le}
+use Rattle.std.proofs.Math.ListN.{get_or-append}
+use Rattle.std.proofs.Math.Seq.{set_at, append_snoc}
 use Rattle.lists.specs.Fill.{tabulate}
 use Rattle.lists.specs.FillLaws.{length_tabulate, tabulate_ext}
 

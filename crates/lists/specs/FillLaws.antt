@@ -1,13 +1,9 @@
 -- Laws of lists whose first places are given by a rule, which is what a loop that stores one element a turn leaves.
-use Rattle.std.specs.Prelude.{◌≡◌, take, set}
-use Rattle.std.proofs.Math.Path.{refl, sym, ap, ap₂}
-use Rattle.std.proofs.Common.{◌∙◌, add-zero, append_assoc, drop_at, drop-drop, add-one, length-drop, length-take-le, get_or-take, drop_of_length-le, ext_get_or}
-use mathlib.Core.List.{List, [], ◌∷◌, ◌++◌, append-nil}
-use Prim.Native.Nat.{ℕ, zero, suc, ◌+◌, ◌-◌, ◌<◌, ◌≤◌}
-use native.Mathlib.Omega.{arith}
+use Rattle.std.specs.Prelude.{◌≡◌, take, set, refl, List, [], ◌∷◌, ◌++◌, ℕ, zero, suc, ◌+◌, ◌-◌, ◌<◌, ◌≤◌, length, get_or, drop}
+use Rattle.std.proofs.Common.{◌∙◌, add-zero, append_assoc, drop_at, drop-drop, add-one, length-drop, length-take-le, get_or-take, drop_of_length-le, ext_get_or, sym, ap, ap₂, append-nil, arith, length-append, drop-cons, take_at, get_or-append-add, get_or-drop}
 use Rattle.std.proofs.Math.Decide.{dec_lt}
-use Rattle.std.proofs.Math.ListN.{length, get_or, drop, length-append, get_or-append}
-use Rattle.std.proofs.Math.Seq.{drop-cons, take_at, get_or_at, get_or-append-add, get_or-drop, append_snoc}
+use Rattle.std.proofs.Math.ListN.{get_or-append}
+use Rattle.std.proofs.Math.Seq.{get_or_at, append_snoc}
 use Rattle.std.proofs.lemmas.List.{set_at, take_rest}
 use Rattle.lists.specs.Fill.{tabulate, filled}
 

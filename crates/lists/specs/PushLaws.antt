@@ -1,12 +1,8 @@
 -- Laws of a list with another in its first places: one element more is what a loop leaves that gathers into a slice.
-use Rattle.std.specs.Prelude.{◌≡◌, ℕ, suc, ◌+◌, ◌<◌, ◌≤◌, length, get_or, take}
-use Rattle.std.proofs.Math.Path.{refl, sym, ap, ap₂}
-use Rattle.std.proofs.Common.{◌∙◌, arith, length-append, length-drop, drop-cons}
-use mathlib.Core.List.{List, [], ◌∷◌, ◌++◌}
-use Rattle.std.proofs.Math.Numerals.{add-one}
+use Rattle.std.specs.Prelude.{◌≡◌, ℕ, suc, ◌+◌, ◌<◌, ◌≤◌, length, get_or, take, refl, List, [], ◌∷◌, ◌++◌, drop, set}
+use Rattle.std.proofs.Common.{◌∙◌, arith, length-append, length-drop, drop-cons, sym, ap, ap₂, add-one, take_at}
+use Rattle.std.proofs.Math.Seq.{set_at, append_snoc}
 use Rattle.std.proofs.lemmas.List as list
-use Rattle.std.proofs.Math.ListN.{drop, set}
-use Rattle.std.proofs.Math.Seq.{set_at, take_at, append_snoc}
 use Rattle.lists.specs.Fill.{tabulate, filled, overwritten}
 use Rattle.lists.specs.FillLaws.{length_tabulate}
 

@@ -1,9 +1,7 @@
 -- Laws of an input's bytes: what follows the bytes of a number or of the settings does not change them, how many samples there are, and where they are loaded; and how large the settings' number is.
-use Rattle.std.specs.Prelude.{◌≡◌, Bool, true, false, cond, ℕ, ◌+◌, ◌*◌, ◌≤◌, leb, ℤ, length, take}
-use Rattle.std.proofs.Common.{sym, ◌∙◌, arith, length-drop, length-take-le}
-use Rattle.std.proofs.Math.Path.{ap}
-use mathlib.Core.List.{List, ◌++◌}
-use Rattle.std.proofs.Math.ListN.{drop, get_or-append}
+use Rattle.std.specs.Prelude.{◌≡◌, Bool, true, false, cond, ℕ, ◌+◌, ◌*◌, ◌≤◌, leb, ℤ, length, take, List, ◌++◌, drop}
+use Rattle.std.proofs.Common.{sym, ◌∙◌, arith, length-drop, length-take-le, ap}
+use Rattle.std.proofs.Math.ListN.{get_or-append}
 use Rattle.std.proofs.lemmas.List.{drop-append-le, take-append-le}
 use Rattle.lists.specs.Fill.{filled, overwritten}
 use Rattle.lists.specs.FillLaws.{filled_all, length_tabulate}

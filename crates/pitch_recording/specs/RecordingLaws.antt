@@ -1,13 +1,7 @@
 -- Laws of the program's text: the settings and samples of an input's first bytes, the limit of the frames that a program takes, the refusal's number, the whole outcome, and the rows of a fresh track.
-use Rattle.std.proofs.Math.Path.{◌≡◌, refl, sym, ap}
-use Rattle.std.proofs.Common.{◌∙◌, subst, append-nil, arith, length-append}
-use Rattle.std.specs.Prelude.{Result, Ok, Err, IsErr, Bool, List, [], ◌∷◌, ◌++◌, ℕ, ◌+◌, ◌-◌, ◌*◌, ◌/◌, ◌%◌, ◌≤◌, ◌<◌, ltb, leb, ℤ, pos, take, replicate}
-use Rattle.std.proofs.Math.Bool.{true, false, cond}
-use Rattle.std.proofs.Math.Logic.{⊎_elim}
-use borrow.Author.Tests.{lt-ltb, le-ltb, le-leb, lt-leb, eq-eqb, ne_eqb, ltb-false, eqb-true, eqb-false}
-use Rattle.std.proofs.Math.Dec.{eqb}
-use Rattle.std.proofs.Math.ListN.{length}
-use Rattle.std.proofs.lemmas.Bool.{or_parts}
+use Rattle.std.specs.Prelude.{Result, Ok, Err, IsErr, Bool, List, [], ◌∷◌, ◌++◌, ℕ, ◌+◌, ◌-◌, ◌*◌, ◌/◌, ◌%◌, ◌≤◌, ◌<◌, ltb, leb, ℤ, pos, take, replicate, ◌≡◌, refl, true, false, cond, eqb, length}
+use Rattle.std.proofs.Common.{◌∙◌, subst, append-nil, arith, length-append, sym, ap, ⊎_elim, lt-ltb, le-ltb, le-leb, eq-eqb, ne_eqb, ltb-false, eqb-true}
+use Rattle.std.proofs.lemmas.Bool.{or_parts, lt-leb, eqb-false}
 use Rattle.std.proofs.lemmas.List.{length-replicate, nil_from_length}
 use Rattle.lists.specs.Fill.{overwritten}
 use Rattle.lists.specs.PushLaws.{take_overwritten}

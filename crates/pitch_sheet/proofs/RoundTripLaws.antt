@@ -1,15 +1,7 @@
 -- The round trips and the sizes hold.
-use Rattle.std.specs.Prelude.{Ok, Err, ◌≡◌, Bool, true, false, eqb, leb, pos}
-use Rattle.std.proofs.Math.Path.{refl, sym, ap, ap₂}
-use Rattle.std.proofs.Common.{◌∙◌, eqb-true, leb-true, leb-false, length-append, take_at, take-add, drop-cons, length-take-le, SFits}
-use mathlib.Core.List.{List, [], ◌∷◌, ◌++◌, append_assoc}
-use Prim.Native.Nat.{ℕ, zero, suc, ◌+◌, ◌*◌, ◌≤◌, ◌<◌}
-use native.Mathlib.Omega.{arith}
+use Rattle.std.proofs.Common.{◌∙◌, eqb-true, leb-true, leb-false, length-append, take_at, take-add, drop-cons, length-take-le, SFits, Ok, Err, ◌≡◌, Bool, true, false, eqb, leb, pos, refl, sym, ap, ap₂, List, [], ◌∷◌, ◌++◌, append_assoc, ℕ, zero, suc, ◌+◌, ◌*◌, ◌≤◌, ◌<◌, arith, ℤ, length, get_or, take, drop, get_or-append-add, w32}
 use Rattle.std.proofs.lemmas.Bool.{eqb-false}
-use Rattle.std.proofs.Math.IntN.{ℤ}
-use Rattle.std.proofs.Math.ListN.{length, get_or, take, drop}
-use Rattle.std.proofs.Math.Seq.{split_at, get_or-append-add}
-use Rattle.std.specs.Int.{w32}
+use Rattle.std.proofs.Math.Seq.{split_at}
 use Rattle.zint.specs.Equal.{eq_z}
 use Rattle.lists.specs.Fill.{tabulate}
 use Rattle.lists.specs.FillLaws.{length_tabulate, get_d_tabulate, tabulate_is as table_of}

@@ -1,16 +1,7 @@
 -- What each call says, by its tests, and what is known where it does not refuse.
-use Rattle.std.proofs.Math.Path.{◌≡◌, refl, ap}
-use Rattle.std.proofs.Common.{sym, ◌∙◌}
-use Rattle.std.specs.Prelude.{Bool, ℤ, length, Result, Ok, Err}
-use Rattle.std.proofs.Math.Bool.{true, false, cond}
-use Rattle.std.proofs.lemmas.Bool.{false≢true}
-use mathlib.Core.List.{List, [], ◌∷◌, ◌++◌}
-use Prim.Native.Nat.{ℕ, ◌+◌, ◌*◌, ◌≤◌, ◌<◌, min}
-use native.Mathlib.Omega.{arith}
-use borrow.Author.Tests.{eq-eqb, ne_eqb, le-leb, lt-leb, eqb-true, leb-true}
-use Rattle.std.proofs.Math.Dec.{eqb, leb}
-use Rattle.std.proofs.Math.IntN.{pos}
-use Rattle.std.proofs.Math.ListN.{drop}
+use Rattle.std.specs.Prelude.{Bool, ℤ, length, Result, Ok, Err, ◌≡◌, refl, true, false, cond, List, [], ◌∷◌, ◌++◌, ℕ, ◌+◌, ◌*◌, ◌≤◌, ◌<◌, min, eqb, leb, pos, drop}
+use Rattle.std.proofs.Common.{sym, ◌∙◌, ap, arith, eq-eqb, ne_eqb, le-leb, eqb-true, leb-true}
+use Rattle.std.proofs.lemmas.Bool.{false≢true, lt-leb}
 use Rattle.std.proofs.lemmas.List.Edits.{sets, sets-eq}
 use Rattle.answers.specs.Answer.{answer_numbers}
 use Rattle.best.specs.BestLaws.{every_true, every_false}

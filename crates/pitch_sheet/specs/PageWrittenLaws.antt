@@ -1,16 +1,8 @@
 -- A page that is accepted is the sheet of the settings and rows that it reads as.
-use Rattle.std.specs.Prelude.{Some, ◌≡◌, Bool, true, false, ◌⊎◌, eqb, ℤ, pos, drop}
-use Rattle.std.proofs.Math.Path.{refl, sym, ap, ap₂}
-use Rattle.std.proofs.Common.{◌∙◌, inl, inr, add-one, mul-zero, eqb-true, length-drop, take-add, drop-drop, drop-cons, length-take-le, SFits}
-use mathlib.Core.List.{List, [], ◌∷◌, ◌++◌, map}
-use Rattle.std.proofs.Math.Logic.{⊎_elim}
-use Prim.Native.Nat.{ℕ, zero, suc, ◌+◌, ◌*◌, ◌≤◌, ◌<◌}
-use native.Mathlib.Omega.{arith}
+use Rattle.std.specs.Prelude.{Some, ◌≡◌, Bool, true, false, ◌⊎◌, eqb, ℤ, pos, drop, refl, List, [], ◌∷◌, ◌++◌, map, ℕ, zero, suc, ◌+◌, ◌*◌, ◌≤◌, ◌<◌, nat_abs, length, get_or, take}
+use Rattle.std.proofs.Common.{◌∙◌, inl, inr, add-one, mul-zero, eqb-true, length-drop, take-add, drop-drop, drop-cons, length-take-le, SFits, sym, ap, ap₂, ⊎_elim, arith, take_all}
 use Rattle.std.proofs.lemmas.Bool.{eqb-false}
-use Rattle.std.proofs.Math.IntN.{nat_abs}
-use Rattle.std.proofs.Math.ListN.{length, get_or, take}
-use Rattle.std.proofs.Math.Seq.{take_all}
-use mir.Syntax.{w32}
+use Rattle.std.specs.Int.{w32}
 use Rattle.zint.specs.WrapLaws.{wrap_fits}
 use Rattle.lists.specs.Fill.{tabulate}
 use Rattle.lists.specs.FillLaws.{length_tabulate, get_d_tabulate}

@@ -1,15 +1,9 @@
 -- A page that is the sheet of settings and rows reads back to them.
-use Rattle.std.specs.Prelude.{Some, ◌≡◌, refl, Bool, true, false, cond, ◌⊎◌, eqb, ℤ, pos, take, drop}
-use Rattle.std.proofs.Math.Path.{sym, ap, ap₂}
-use Rattle.std.proofs.Common.{◌∙◌, inl, inr, ⊎_elim, add-zero, add-one, eqb-true, length-append, take-suc, get_or-append-add, length-take-le}
-use mathlib.Core.List.{List, [], ◌∷◌, ◌++◌, map, append_assoc, append-nil}
-use Prim.Native.Nat.{ℕ, zero, suc, ◌+◌, ◌*◌, ◌^◌, ◌≤◌, ◌<◌}
-use native.Mathlib.Omega.{arith}
+use Rattle.std.specs.Prelude.{Some, ◌≡◌, refl, Bool, true, false, cond, ◌⊎◌, eqb, ℤ, pos, take, drop, List, [], ◌∷◌, ◌++◌, map, ℕ, zero, suc, ◌+◌, ◌*◌, ◌^◌, ◌≤◌, ◌<◌, nat_abs, length, get_or}
+use Rattle.std.proofs.Common.{◌∙◌, inl, inr, ⊎_elim, add-zero, add-one, eqb-true, length-append, take-suc, get_or-append-add, length-take-le, sym, ap, ap₂, append_assoc, append-nil, arith}
 use Rattle.std.proofs.lemmas.Bool.{eqb-false}
-use Rattle.std.proofs.Math.IntN.{nat_abs}
-use Rattle.std.proofs.Math.ListN.{length, get_or}
 use Rattle.std.proofs.Math.Seq.{split_at, drop-append-add, get_or-append_seam, take-length}
-use mir.Syntax.{w32}
+use Rattle.std.specs.Int.{w32}
 use Rattle.zint.specs.Wrap.{wrap}
 use Rattle.lists.specs.FillLaws.{tabulate_is}
 use Rattle.pitch_settings.specs.declared.Settings.{Settings}

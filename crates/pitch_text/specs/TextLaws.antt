@@ -1,11 +1,9 @@
 -- Laws of text: one part after another (the laws of `Put`, passed on), one field more, the rows of a part of a table, how long a number is, and how large a refusal's.
 use Rattle.std.specs.Prelude.{◌≡◌, refl, List, [], ◌∷◌, ◌++◌, ℕ, zero, suc, ◌+◌, ◌*◌, ◌/◌, ◌≤◌, ◌<◌, true, false, ℤ, pos, negsuc, nat_abs, length, get_or, take, drop}
-use Rattle.std.proofs.Common.{sym, ap, ap₂, ◌∙◌, append_assoc, append-nil, add-one, arith, ltb-true, take-suc, SFits}
+use Rattle.std.proofs.Common.{sym, ap, ap₂, ◌∙◌, append_assoc, append-nil, add-one, arith, ltb-true, take-suc, SFits, get_or-take, length-take-le}
 use Rattle.std.proofs.lemmas.Bool.{false≢true}
 use Rattle.std.specs.Int.Signed.{lt_z}
-use Rattle.std.proofs.lemmas.List.{get_or-take}
 use Rattle.std.proofs.lemmas.List.Edits.{sets-eq}
-use Rattle.std.proofs.Math.Seq.{length-take-le}
 use Rattle.std.specs.Int.{w32}
 use Rattle.lists.specs.Fill.{overwritten}
 pub use Rattle.lists.specs.PutLaws.{put_then, put_as, put_end, put_one as put_byte, put_next, put_none, put_front}

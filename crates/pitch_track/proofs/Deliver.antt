@@ -1,6 +1,5 @@
 -- The number that `start_call` says, the answer of `deliver_call` in numbers, and the two cases of `deliver_call`.
-use Rattle.std.specs.Prelude.{◌≡◌, refl, Ok, Err, Bool, true, false, cond, ℕ, ◌+◌, ◌-◌, ◌*◌, eqb, ℤ, pos, List, [], ◌∷◌, ◌++◌, length, take, drop}
-use Rattle.std.proofs.Common.{sym, ap, ◌∙◌, arith, eq-eqb, ne_eqb, eqb-true, length-drop, take_all}
+use Rattle.std.proofs.Common.{sym, ap, ◌∙◌, arith, eq-eqb, ne_eqb, eqb-true, length-drop, take_all, ◌≡◌, refl, Ok, Err, Bool, true, false, cond, ℕ, ◌+◌, ◌-◌, ◌*◌, eqb, ℤ, pos, List, [], ◌∷◌, ◌++◌, length, take, drop}
 use Rattle.track_settings.specs.declared.TrackSettings.{TrackSettings}
 use Rattle.track_settings.specs.TrackSettings.{stored_settings}
 use Rattle.answers.specs.Answer.{answer_numbers}

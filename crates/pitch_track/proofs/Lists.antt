@@ -1,7 +1,6 @@
 -- Lists: a part of two lists one after the other, and a list laid at the front of the places for samples held.
-use Rattle.std.specs.Prelude.{◌≡◌, ℕ, ◌+◌, ◌-◌, ◌≤◌, ◌<◌, ◌⊎◌, min, List, ◌++◌, ℤ, pos, length, take, drop}
-use Rattle.std.proofs.Common.{sym, ap, ◌∙◌, inl, inr, ⊎_elim, arith, add-zero, append_assoc, append-nil, length-append, length-drop, drop-drop, take_at, drop_at}
-use Rattle.std.proofs.Math.Seq.{length-take-le, take-length, take-append-add, drop-append-add}
+use Rattle.std.proofs.Common.{sym, ap, ◌∙◌, inl, inr, ⊎_elim, arith, add-zero, append_assoc, append-nil, length-append, length-drop, drop-drop, take_at, drop_at, ◌≡◌, ℕ, ◌+◌, ◌-◌, ◌≤◌, ◌<◌, ◌⊎◌, min, List, ◌++◌, ℤ, pos, length, take, drop, length-take-le}
+use Rattle.std.proofs.Math.Seq.{take-length, take-append-add, drop-append-add}
 use Rattle.std.proofs.lemmas.List.{length-replicate, take-append-le, drop-append-le}
 use Rattle.pitch_settings.specs.Settings.{longest_frame}
 use Rattle.track_paper.specs.FramesLaws.{lt_or_le}

@@ -1,10 +1,9 @@
 -- Laws of a head: its size, and that what follows its bytes does not change what they say.
-use Rattle.std.specs.Prelude.{◌≡◌, List, ◌++◌, ℕ, zero, suc, ◌+◌, ◌≤◌, ◌<◌, eqb, leb, true, false, length, Err, is_ok}
+use Rattle.std.specs.Prelude.{◌≡◌, List, ◌++◌, ℕ, zero, suc, ◌+◌, ◌≤◌, ◌<◌, eqb, leb, true, false, length, Err, is_ok, refl}
+use Rattle.std.proofs.Common.{arith, sym, eq-eqb, ne_eqb, le-leb, ap}
 use Rattle.std.specs.Result.{result_unwrap_or}
-use borrow.Author.Tests.{eq-eqb, ne_eqb, le-leb, lt-leb}
-use Rattle.std.proofs.Math.Path.{refl, ap}
-use Rattle.std.proofs.Common.{arith, sym}
 use Rattle.std.proofs.Math.ListN.{get_or-append}
+use Rattle.std.proofs.lemmas.Bool.{lt-leb}
 use Rattle.pitch_input.specs.InputLaws.{signed_front, sample_front, settings_front}
 use Rattle.track_settings.specs.TrackSettings.{fixed_settings}
 use Rattle.recording_head.specs.declared.Kind.TheVariants as kinds

@@ -1,16 +1,12 @@
 -- Laws of little-endian numbers: bytes and number are each other's inverse, and the steps by which the code takes them apart and puts them together.
-use Rattle.std.specs.Prelude.{◌≡◌, refl, ℕ, zero, suc, ◌+◌, ◌*◌, ◌/◌, ◌%◌, ◌^◌, ◌≤◌, ◌<◌, ℤ, pos, length, get_or, take, drop, set}
-use Rattle.std.proofs.Common.{sym, ap₂, ◌∙◌, arith, length-drop, drop-cons, drop_at, take_at, get_or-drop, length-take-le, append_assoc, SFits}
-use Rattle.std.proofs.Math.Path.{ap}
-use mathlib.Core.List.{List, [], ◌∷◌, ◌++◌}
+use Rattle.std.specs.Prelude.{◌≡◌, refl, ℕ, zero, suc, ◌+◌, ◌*◌, ◌/◌, ◌%◌, ◌^◌, ◌≤◌, ◌<◌, ℤ, pos, length, get_or, take, drop, set, List, [], ◌∷◌, ◌++◌}
+use Rattle.std.proofs.Common.{sym, ap₂, ◌∙◌, arith, length-drop, drop-cons, drop_at, take_at, get_or-drop, length-take-le, append_assoc, SFits, ap, of_z, to_z}
 use Rattle.std.proofs.Math.Arith.{digits_div, digits_mod, mod-mul}
 use Rattle.std.proofs.Math.Numerals.{towards_suc}
-use borrow.Rule.Slice.PartMut.{put_mid}
 use Rattle.std.proofs.lemmas.List.Edits.{sets, sets-eq, paste_all}
 use Rattle.std.proofs.lemmas.Slice.{put_mid-paste}
-use Rattle.std.specs.Int.{w16, to_le_bytes}
-use mir.Syntax.{w32}
-use mir.Val.{of_z, to_z}
+use Rattle.std.specs.Int.{w16, to_le_bytes, w32}
+use borrow.Rule.Slice.PartMut.{put_mid}
 use mir.ValLaws.{of_z_fits}
 use Rattle.zint.specs.Wrap.{mod_z, wrap}
 use Rattle.zint.specs.WrapLaws.{mod_z_is, of_z_cong, mod_z_lt, mod_z_cong, wrap_cong, wrap_is, cong_sym}

@@ -1,17 +1,8 @@
 -- What a page that is a sheet says, place by place, and the steps by which the code reads it.
-use Rattle.std.specs.Prelude.{◌≡◌, Bool, ◌&&◌, ℕ, zero, suc, ◌+◌, ◌-◌, ◌*◌, ◌≤◌, ◌<◌, ℤ, pos, get_or, take, drop, count_by, ◌==◌, Option, Some, None}
-use Rattle.std.proofs.Math.Path.{refl, sym, ap}
-use Rattle.std.proofs.Common.{◌∙◌, ap₂, add-one, length-drop, length-append, of_z}
-use Rattle.std.proofs.Math.Bool.{true, false, cond}
-use Rattle.std.proofs.lemmas.Bool.{false≢true}
-use mathlib.Core.List.{List, [], ◌∷◌, ◌++◌, append_assoc}
-use Rattle.std.proofs.Math.Nat.{add-zero}
-use native.Mathlib.Omega.{arith}
-use borrow.Author.Tests.{eqb-true, eqb-false, leb-true, eq-eqb, ne_eqb, le-leb}
-use Rattle.std.proofs.Math.Dec.{eqb, leb}
-use Rattle.std.proofs.Math.ListN.{length}
+use Rattle.std.specs.Prelude.{◌≡◌, Bool, ◌&&◌, ℕ, zero, suc, ◌+◌, ◌-◌, ◌*◌, ◌≤◌, ◌<◌, ℤ, pos, get_or, take, drop, count_by, ◌==◌, Option, Some, None, refl, true, false, cond, List, [], ◌∷◌, ◌++◌, eqb, leb, length}
+use Rattle.std.proofs.Common.{◌∙◌, ap₂, add-one, length-drop, length-append, of_z, sym, ap, append_assoc, add-zero, arith, eqb-true, leb-true, eq-eqb, ne_eqb, le-leb, get_or-drop}
+use Rattle.std.proofs.lemmas.Bool.{false≢true, eqb-false}
 use Rattle.std.proofs.Math.Seq.{sets}
-use Rattle.std.proofs.lemmas.List.{get_or-drop}
 use Rattle.std.proofs.lemmas.List.Sums.{sum_by_more}
 use Rattle.std.specs.Int.{w32}
 use Rattle.best.specs.BestLaws.{every_true, every_false}

@@ -1,11 +1,8 @@
 -- Laws of the rows that a sheet can hold: the definitions by their tests, and what is known of such a row.
-use Rattle.std.proofs.Math.Path.{◌≡◌, refl, sym, ap}
-use Rattle.std.proofs.Common.{◌∙◌, inl, inr, ⊎_elim, arith}
-use Rattle.std.specs.Prelude.{Bool, ◌||◌, cond, ◌⊎◌, ℕ, ◌≤◌, ℤ, ◌≤ℤ◌, Option, Some, None}
-use Rattle.std.proofs.Math.Bool.{true, false}
+use Rattle.std.specs.Prelude.{Bool, ◌||◌, cond, ◌⊎◌, ℕ, ◌≤◌, ℤ, ◌≤ℤ◌, Option, Some, None, ◌≡◌, refl, true, false, pos, nat_abs}
+use Rattle.std.proofs.Common.{◌∙◌, inl, inr, ⊎_elim, arith, sym, ap}
 use Rattle.std.proofs.lemmas.Bool.{false≢true}
 use Rattle.std.proofs.lemmas.Int.{ints}
-use Rattle.std.proofs.Math.IntN.{pos, nat_abs}
 use Rattle.answers.specs.Answer.{answer_numbers}
 use Rattle.zint.specs.BoundLaws.{abs_ud}
 use Rattle.zint.specs.DiffLaws.{of_le, of_lt, nonneg_dn, zarith}

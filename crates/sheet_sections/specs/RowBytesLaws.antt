@@ -1,7 +1,6 @@
 -- A row's bytes in a section by the section and the verdict, and the page after it was written.
 use Rattle.std.specs.Prelude.{◌≡◌, refl, true, false, List, [], ◌∷◌, ℕ, ◌+◌, ℤ, pos, nat_abs, length, set}
-use Rattle.std.proofs.Common.{sym, ◌∙◌, arith}
-use Rattle.std.proofs.Math.Path.{ap}
+use Rattle.std.proofs.Common.{sym, ◌∙◌, arith, ap}
 use Rattle.std.proofs.Math.Seq.{sets}
 use Rattle.zint.specs.EqualLaws.{eq_z_yes, eq_z_true, eq_z_no}
 use Rattle.pitch_table.specs.declared.Row.{Row}

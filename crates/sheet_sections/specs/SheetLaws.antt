@@ -1,14 +1,11 @@
 -- Laws of a sheet's bytes: sections grow row by row, lengths, and writing one run of bytes after another.
-use Rattle.std.specs.Prelude.{◌≡◌, refl, Bool, true, false, cond, List, [], ◌∷◌, ◌++◌, map, ℕ, zero, suc, ◌+◌, ◌-◌, ◌*◌, ◌≤◌, ◌<◌, ℤ, pos, nat_abs, get_or, take, count_by}
-use Rattle.std.proofs.Common.{ap₂, sym, ◌∙◌, append_assoc, append-nil, add-one, arith, length-append}
-use Rattle.std.proofs.Math.Path.{ap}
-use Rattle.std.proofs.Math.Nat.{add-zero}
-use Rattle.std.proofs.Math.ListN.{length}
+use Rattle.std.specs.Prelude.{◌≡◌, refl, Bool, true, false, cond, List, [], ◌∷◌, ◌++◌, map, ℕ, zero, suc, ◌+◌, ◌-◌, ◌*◌, ◌≤◌, ◌<◌, ℤ, pos, nat_abs, get_or, take, count_by, length, filter}
+use Rattle.std.proofs.Common.{ap₂, sym, ◌∙◌, append_assoc, append-nil, add-one, arith, length-append, ap, add-zero}
 use Rattle.std.proofs.lemmas.List.Edits.{sets}
 use Rattle.std.proofs.lemmas.List.Sums.{sum_by_more, length-filter}
 use Rattle.std.proofs.lemmas.List.FromFn.{length-range_with_len, get_or-range_with_len}
 use Rattle.std.proofs.Math.Seq.{take-length}
-use Rattle.std.specs.List.{range_with_len, filter}
+use Rattle.std.specs.List.{range_with_len}
 use Rattle.zint.specs.Equal.{eq_z}
 use Rattle.lists.specs.Fill.{tabulate}
 use Rattle.lists.specs.FillLaws.{length_tabulate}

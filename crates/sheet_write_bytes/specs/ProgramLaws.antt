@@ -1,11 +1,7 @@
 -- Laws of the written bytes: a refusal, a sheet, what a started, fed and written track leaves, and that a track of at most the frames that a program takes is written on `longest_program_sheet` bytes.
-use Rattle.std.specs.Prelude.{Result, Ok, Err, ◌≡◌, refl, Bool, true, false, cond, ℕ, ◌/◌, ◌≤◌, ltb, ℤ, pos}
-use Rattle.std.proofs.Math.Path.{ap}
-use Rattle.std.proofs.Common.{◌∙◌, zero-add}
-use mathlib.Core.List.{List, [], ◌∷◌, ◌++◌}
-use native.Mathlib.Omega.{arith}
-use borrow.Author.Tests.{eq-eqb, ne_eqb, le-ltb}
-use Rattle.std.proofs.Math.ListN.{length, drop}
+use Rattle.std.specs.Prelude.{Result, Ok, Err, ◌≡◌, refl, Bool, true, false, cond, ℕ, ◌/◌, ◌≤◌, ltb, ℤ, pos, List, [], ◌∷◌, ◌++◌, length, drop}
+use Rattle.std.proofs.Common.{◌∙◌, zero-add, ap, arith, eq-eqb, ne_eqb, le-ltb}
+use Rattle.std.specs.Result.{result_unwrap_or}
 use Rattle.lists.specs.FillLaws.{length_tabulate}
 use Rattle.lists.specs.Fill.{overwritten}
 use Rattle.pitch_settings.specs.declared.Settings.{Settings}
@@ -22,7 +18,6 @@ use Rattle.sheet_sections.specs.declared.Section.TheVariants.{Pairs}
 use Rattle.sheet_sections.specs.SheetLaws.{length_sheet, section_entries_le}
 use Rattle.refusals.specs.declared.Refusal.{Refusal}
 use Rattle.refusals.specs.Refusals.{told}
-use Rattle.std.specs.Result.{result_unwrap_or}
 use Rattle.pitch_sheet.specs.Calls.{WriteOutcome, wrote, write_call}
 use Rattle.track_sheet.specs.Accepted.{paper_rows, paper_sheet}
 use Rattle.track_sheet.proofs.AcceptedLaws.{accepted_by_write}

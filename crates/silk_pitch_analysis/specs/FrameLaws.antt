@@ -1,12 +1,9 @@
 -- Laws of a frame: its verdict's pair is one that the index code carries, what the stages are handed, and the answers in numbers.
-use Rattle.std.specs.Prelude.{Result, Ok, Err, ◌≡◌, refl, Bool, true, false, cond, List, [], ◌∷◌, ℕ, ◌+◌, ◌-◌, ◌*◌, ◌/◌, ◌≤◌, ◌<◌, eqb, ltb, ℤ, pos, ◌-ℤ◌, take}
-use Rattle.std.proofs.Common.{◌∙◌, subst, arith, eq-eqb, ne_eqb, le-ltb, eqb-true, ltb-false, take_all}
-use Rattle.std.proofs.Math.Path.{ap}
-use Rattle.std.proofs.Math.Logic.{⊎_elim}
-use Rattle.std.proofs.lemmas.Bool.{eqb-false}
-use Rattle.std.proofs.Math.ListN.{length}
-use Rattle.zint.specs.DiffLaws.{eq_of, sub_ud'}
+use Rattle.std.specs.Prelude.{Result, Ok, Err, ◌≡◌, refl, Bool, true, false, cond, List, [], ◌∷◌, ℕ, ◌+◌, ◌-◌, ◌*◌, ◌/◌, ◌≤◌, ◌<◌, eqb, ltb, ℤ, pos, ◌-ℤ◌, take, length}
 use Rattle.std.specs.Prelude.{IsErr}
+use Rattle.std.proofs.Common.{◌∙◌, subst, arith, eq-eqb, ne_eqb, le-ltb, eqb-true, ltb-false, take_all, ap, ⊎_elim}
+use Rattle.std.proofs.lemmas.Bool.{eqb-false}
+use Rattle.zint.specs.DiffLaws.{eq_of, sub_ud'}
 use Rattle.refusals.specs.declared.Refusal.{Refusal}
 use Rattle.refusals.specs.Refusals.{told, number_told}
 use Rattle.refusals.specs.RefusalsLaws.{refused_positive}

@@ -1,11 +1,7 @@
 -- Each verdict of a frame comes exactly where `Meaning` says (`verdict_exactly`): the verdict has its meaning (`verdict_means`), and no other verdict has its own (`one_meaning`).
-use Rattle.std.specs.Prelude.{◌≡◌, Bool, cond, List, ℕ, ◌*◌, ◌/◌, ℤ, pos, length, ◌≤ℤ◌}
-use Rattle.std.proofs.Math.Path.{refl, ap, subst}
-use Rattle.std.proofs.Common.{sym, ◌∙◌, inr, arith, eq-eqb, ne_eqb, eqb-true}
-use Rattle.std.proofs.Math.Bool.{true, false}
-use Rattle.std.proofs.Math.Logic.{inl}
+use Rattle.std.specs.Prelude.{◌≡◌, Bool, cond, List, ℕ, ◌*◌, ◌/◌, ℤ, pos, length, ◌≤ℤ◌, refl, true, false, eqb}
+use Rattle.std.proofs.Common.{sym, ◌∙◌, inr, arith, eq-eqb, ne_eqb, eqb-true, ap, subst, inl}
 use Rattle.std.proofs.lemmas.Bool.{eqb-false}
-use Rattle.std.proofs.Math.Dec.{eqb}
 use Rattle.std.specs.Int.Signed.{clash_ℤ}
 use Rattle.pitch_settings.specs.declared.Settings.{Settings}
 use Rattle.pitch_settings.specs.Settings.{settings_no, frame_length}

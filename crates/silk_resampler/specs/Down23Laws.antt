@@ -1,15 +1,8 @@
 -- Laws of the decimator by two thirds, for any filter: a step of the code, one turn of each loop, the widths of what they hold, the buffer, lengths, and the frame alone.
-use Rattle.std.specs.Prelude.{◌≡◌, refl, Bool, ℕ, ◌+◌, ◌-◌, ◌*◌, ◌/◌, ◌%◌, ◌≤◌, ◌<◌, ℤ, pos, ◌+ℤ◌, ◌*ℤ◌, length, get_or, take, replicate}
-use Rattle.std.proofs.Common.{sym, ◌∙◌, add-one, lit<, length-drop, length-take-le, get_or-append-add, drop_at, SFits, to_z, of_z}
-use Rattle.std.proofs.Math.Path.{ap, ap₂}
-use Rattle.std.proofs.Math.Bool.{true, false, cond}
-use mathlib.Core.List.{List, [], ◌∷◌, ◌++◌}
+use Rattle.std.specs.Prelude.{◌≡◌, refl, Bool, ℕ, ◌+◌, ◌-◌, ◌*◌, ◌/◌, ◌%◌, ◌≤◌, ◌<◌, ℤ, pos, ◌+ℤ◌, ◌*ℤ◌, length, get_or, take, replicate, true, false, cond, List, [], ◌∷◌, ◌++◌, eqb, drop}
+use Rattle.std.proofs.Common.{sym, ◌∙◌, add-one, lit<, length-drop, length-take-le, get_or-append-add, drop_at, SFits, to_z, of_z, ap, ap₂, arith, lt-ltb, le-ltb, eq-eqb, ne_eqb, get_or-take, get_or-drop}
 use Rattle.std.proofs.Math.Decide.{dec_lt}
-use native.Mathlib.Omega.{arith}
-use borrow.Author.Tests.{lt-ltb, le-ltb, eq-eqb, ne_eqb}
-use Rattle.std.proofs.Math.Dec.{eqb}
-use Rattle.std.proofs.Math.ListN.{drop, get_or-append}
-use Rattle.std.proofs.Math.Seq.{get_or-take, get_or-drop}
+use Rattle.std.proofs.Math.ListN.{get_or-append}
 use Rattle.std.specs.Int.{w16, w32}
 use Rattle.zint.specs.ClampLaws.{sat_fits}
 use Rattle.zint.specs.ReadLaws.{r_is}

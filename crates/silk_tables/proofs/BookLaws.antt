@@ -1,7 +1,5 @@
 -- Every offset of a codebook lies within -9 to 9, and so the sum that is held fits. A wrong entry of a table makes these false.
-use Rattle.std.specs.Prelude.{◌≡◌, refl, Bool, true, false, cond, ℕ, ◌*◌, ℤ, pos, negsuc, ◌+ℤ◌, ◌≤ℤ◌, eqb}
-use Rattle.std.specs.Int.{w32}
-use mir.Val.{SFits}
+use Rattle.std.proofs.Common.{◌≡◌, refl, Bool, true, false, cond, ℕ, ◌*◌, ℤ, pos, negsuc, ◌+ℤ◌, ◌≤ℤ◌, eqb, w32, SFits}
 use Rattle.zint.specs.DiffLaws.{v, n as num, ◌⊕◌, le_of, sfits_by, zarith}
 use Rattle.silk_tables.specs.Tables.{cb_lags_stage3, cb_lags_stage3_10_ms, offset, offset2}
 use Rattle.silk_tables.specs.Rebuild.{lag_min, book, Coded}

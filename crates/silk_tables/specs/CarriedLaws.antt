@@ -1,8 +1,6 @@
 -- What a carried pair says, the test from such facts, and the answer by its tests.
-use Rattle.std.specs.Prelude.{Option, Some, None, ◌≡◌, [], ◌∷◌, Bool, ℕ, ◌≤◌, ◌<◌, eqb, ltb, ℤ, pos, nat_abs, ◌<ℤ◌}
-use Rattle.std.proofs.Math.Path.{refl, ap₂}
-use Rattle.std.proofs.Common.{subst, arith}
-use Rattle.std.proofs.Math.Bool.{true, false, ◌&&◌, cond}
+use Rattle.std.specs.Prelude.{Option, Some, None, ◌≡◌, [], ◌∷◌, Bool, ℕ, ◌≤◌, ◌<◌, eqb, ltb, ℤ, pos, nat_abs, ◌<ℤ◌, refl, true, false, ◌&&◌, cond}
+use Rattle.std.proofs.Common.{subst, arith, ap₂}
 use Rattle.std.specs.Int.Signed.{le_z, lt_z}
 use Rattle.answers.specs.Answer.{answer_numbers}
 use Rattle.zint.specs.TestLaws.{le_true, lt_true}

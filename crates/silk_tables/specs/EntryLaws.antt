@@ -1,11 +1,10 @@
 -- Bounds of a table's entries, by one computed test over the table; past the table's end 0 is read, so the bounds hold at every row and column. And what the code reads
 -- of an entry.
-use Rattle.std.specs.Prelude.{◌≡◌, refl, Bool, true, ◌&&◌, cond, ℕ, zero, suc, ◌^◌, ◌<◌, eqb, ℤ, pos, get_or, ◌≤ℤ◌}
-use Rattle.std.proofs.Common.{ap, eq-eqb, ne_eqb}
-use mathlib.Core.List.{List, [], ◌∷◌}
+use Rattle.std.specs.Prelude.{◌≡◌, refl, Bool, true, ◌&&◌, cond, ℕ, zero, suc, ◌^◌, ◌<◌, eqb, ℤ, pos, get_or, ◌≤ℤ◌, List, [], ◌∷◌}
+use Rattle.std.proofs.Common.{ap, eq-eqb, ne_eqb, SFits, to_z, of_z}
 use Rattle.std.specs.Int.Signed.{mag, le_z}
 use Rattle.std.specs.Int.{w8, w32}
-use mir.Val.{SFits, hbits, to_z, of_z}
+use mir.Val.{hbits}
 use Rattle.zint.specs.BoundLaws.{widen}
 use Rattle.zint.specs.ReadLaws.{r_elem, r_cast, f_cast}
 use Rattle.zint.specs.TestLaws.{le_true}

@@ -1,9 +1,9 @@
 -- Laws of the rebuilding: the bounds of a lag, and that the source's own assembly is the rebuilding.
 use Rattle.std.specs.Prelude.{◌≡◌, refl, Bool, true, false, ℕ, ◌-◌, ◌*◌, ◌≤◌, ℤ, pos, ◌+ℤ◌, ◌≤ℤ◌}
-use Rattle.std.proofs.Common.{sym, ap, arith}
+use Rattle.std.proofs.Common.{sym, ap, arith, SFits}
 use Rattle.std.specs.Int.{w32}
-use mir.Val.{SFits, sel}
 use Rattle.std.specs.Int.Signed.{lt_z, ≤ℤ_refl}
+use mir.Val.{sel}
 use Rattle.zint.specs.Clamp.{clamp}
 use Rattle.zint.specs.TestLaws.{lt_false}
 use Rattle.zint.specs.DiffLaws.{v, n as num, ◌⊕◌, le_of, sfits_by, sfits_of_ud, zarith}

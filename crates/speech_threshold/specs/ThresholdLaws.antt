@@ -1,11 +1,8 @@
 -- Laws of the threshold from the speech: what the call says; what the ranges say; the value as a plain sum, its bounds, and that it is a number of 16 bits.
-use Rattle.std.proofs.Common.{ap₂, ◌∙◌, SFits, eq-eqb, ne_eqb, eqb-true, [], ◌∷◌, arith, w16, w32}
-use Rattle.std.proofs.Math.Path.{◌≡◌, refl, sym, ap, subst}
-use Rattle.std.specs.Prelude.{Ok, Err, Bool, ◌&&◌, ℕ, ℤ, ◌+ℤ◌, ◌*ℤ◌, ◌≤ℤ◌}
-use Rattle.std.proofs.Math.Bool.{true, false, cond}
-use Rattle.std.proofs.Math.Dec.{eqb}
-use Rattle.std.proofs.Math.IntN.{pos}
+use Rattle.std.specs.Prelude.{Ok, Err, Bool, ◌&&◌, ℕ, ℤ, ◌+ℤ◌, ◌*ℤ◌, ◌≤ℤ◌, [], ◌∷◌, ◌≡◌, refl, true, false, cond, eqb, pos}
+use Rattle.std.proofs.Common.{ap₂, ◌∙◌, SFits, eq-eqb, ne_eqb, eqb-true, arith, sym, ap, subst}
 use Rattle.std.specs.Int.Signed.{shr_z, le_z}
+use Rattle.std.specs.Int.{w16, w32}
 use Rattle.answers.specs.Answer.{answer_numbers}
 use Rattle.zint.specs.BoolLaws.{and_left, and_right, and_yes}
 use Rattle.zint.specs.Clamp.{sat}

@@ -1,10 +1,6 @@
 -- What callers use of stage 1's answer: its way in numbers; the lags that go on are the front of its array, at most eight, within 8 to 72, and all different.
-use Rattle.std.proofs.Math.Path.{◌≡◌}
-use Rattle.std.specs.Prelude.{refl, Bool, cond, List, [], ℕ, ◌≤◌, ◌<◌, ℤ, pos, length, get_or, drop, take, replicate}
-use Rattle.std.proofs.Common.{sym, ap, ◌∙◌, subst}
-use Rattle.std.proofs.Math.Bool.{true, false}
-use native.Mathlib.Omega.{arith}
-use Rattle.std.proofs.Math.Seq.{take_at}
+use Rattle.std.specs.Prelude.{refl, Bool, cond, List, [], ℕ, ◌≤◌, ◌<◌, ℤ, pos, length, get_or, drop, take, replicate, ◌≡◌, true, false}
+use Rattle.std.proofs.Common.{sym, ap, ◌∙◌, subst, arith, take_at}
 use Rattle.std.specs.Int.Signed.{lt_z}
 use Rattle.answers.specs.Answer.{answer_numbers}
 use Rattle.lists.specs.Fill.{tabulate, filled}

@@ -1,11 +1,7 @@
 -- Laws of stage 1's choice of the lags that go on.
-use Rattle.std.specs.Prelude.{◌≡◌, refl, Bool, true, false, ℕ, zero, suc, ◌+◌, ◌≤◌, ◌<◌, ℤ, pos, length, take, replicate, ◌≤ℤ◌, ◌<ℤ◌}
-use Rattle.std.proofs.Math.Path.{sym, ap, ap₂}
-use Rattle.std.proofs.Common.{◌∙◌, subst, arith, take_all, get_or-take, length-take-le}
-use Rattle.std.proofs.Math.Bool.{cond}
-use mathlib.Core.List.{List}
+use Rattle.std.specs.Prelude.{◌≡◌, refl, Bool, true, false, ℕ, zero, suc, ◌+◌, ◌≤◌, ◌<◌, ℤ, pos, length, take, replicate, ◌≤ℤ◌, ◌<ℤ◌, cond, List, get_or}
+use Rattle.std.proofs.Common.{◌∙◌, subst, arith, take_all, get_or-take, length-take-le, sym, ap, ap₂}
 use Rattle.std.proofs.Math.Decide.{dec_lt}
-use Rattle.std.proofs.Math.ListN.{get_or}
 use Rattle.std.specs.Int.Signed.{lt_z, le_z}
 use Rattle.zint.specs.OrderLaws.{le_yes, le_no}
 use Rattle.lists.specs.Signal.{sample}

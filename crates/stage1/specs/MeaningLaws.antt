@@ -1,12 +1,9 @@
 -- Stage 1's answer has the meaning in words (`stage1_means`), and no other answer has it (`stage1_only`); each verdict comes exactly where the words say (`zero_where`,
 -- `unvoiced_where`, `goes_where`, `zero_only`, `unvoiced_only`).
-use Rattle.std.specs.Prelude.{◌≡◌, Bool, List, ℕ, zero, suc, ◌+◌, ◌-◌, ◌/◌, ◌≤◌, ◌<◌, ℤ, pos, get_or, replicate, ◌≤ℤ◌, ◌<ℤ◌}
-use Rattle.std.proofs.Math.Path.{refl, sym, ap, subst}
-use Rattle.std.proofs.Common.{ap₂, ◌∙◌, subst₂, inl, inr, ext_get_or}
-use Rattle.std.proofs.Math.Bool.{true, false, cond}
+use Rattle.std.specs.Prelude.{◌≡◌, Bool, List, ℕ, zero, suc, ◌+◌, ◌-◌, ◌/◌, ◌≤◌, ◌<◌, ℤ, pos, get_or, replicate, ◌≤ℤ◌, ◌<ℤ◌, refl, true, false, cond}
+use Rattle.std.proofs.Common.{ap₂, ◌∙◌, subst₂, inl, inr, ext_get_or, sym, ap, subst, arith}
 use Rattle.std.proofs.lemmas.Bool.{false≢true}
 use Rattle.std.proofs.Math.Decide.{dec_lt}
-use native.Mathlib.Omega.{arith}
 use Rattle.std.specs.Int.Signed.{lt_z, le_z, clash_ℤ}
 use Rattle.zint.specs.EqualLaws.{eq_z_yes, eq_z_true}
 use Rattle.zint.specs.OrderLaws.{≤ℤ_antisym, ≤ℤ_trans, ≤ℤ-<ℤ_trans, lt_yes, lt_no}

@@ -1,9 +1,7 @@
 -- Lags and their places in the ranking of the scores, and where the scan along it ends.
 use Rattle.std.specs.Prelude.{◌≡◌, refl, List, ℕ, ◌+◌, ◌-◌, ◌≤◌, ◌<◌, ℤ, length, ◌≤ℤ◌}
-use Rattle.std.proofs.Common.{sym, ◌∙◌}
-use Rattle.std.proofs.Math.Path.{ap, subst}
+use Rattle.std.proofs.Common.{sym, ◌∙◌, ap, subst, arith}
 use Rattle.std.proofs.Math.Decide.{dec_lt}
-use native.Mathlib.Omega.{arith}
 use Rattle.std.specs.Int.Signed.{le_z, ≤ℤ_refl}
 use Rattle.lists.specs.Signal.{sample}
 use Rattle.silk_sort.specs.Rank.{rank, ranked}

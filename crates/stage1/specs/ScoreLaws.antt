@@ -1,14 +1,7 @@
 -- Laws of stage 1's correlations and scores.
-use Rattle.std.specs.Prelude.{Option, Some, None, ◌≡◌, refl, Bool, true, ◌⊎◌, ℕ, suc, ◌+◌, ◌-◌, ◌*◌, ◌/◌, ◌≤◌, ◌<◌, ℤ, pos, ◌-ℤ◌, ◌*ℤ◌, drop, replicate}
-use Rattle.std.proofs.Math.Path.{sym, ap, ap₂}
-use Rattle.std.proofs.Common.{◌∙◌, ⊎_elim, lit<, lit≤, drop-drop}
-use Rattle.std.proofs.Math.Bool.{false, cond}
-use mathlib.Core.List.{List}
-use native.Mathlib.Omega.{arith}
-use Rattle.std.proofs.Math.IntN.{◌+ℤ◌}
-use Rattle.std.proofs.Math.Dec.{eqb}
+use Rattle.std.specs.Prelude.{Option, Some, None, ◌≡◌, refl, Bool, true, ◌⊎◌, ℕ, suc, ◌+◌, ◌-◌, ◌*◌, ◌/◌, ◌≤◌, ◌<◌, ℤ, pos, ◌-ℤ◌, ◌*ℤ◌, drop, replicate, false, cond, List, ◌+ℤ◌, eqb, get_or}
+use Rattle.std.proofs.Common.{◌∙◌, ⊎_elim, lit<, lit≤, drop-drop, sym, ap, ap₂, arith}
 use Rattle.std.proofs.Math.Decide.{dec_lt}
-use Rattle.std.proofs.Math.ListN.{get_or}
 use Rattle.std.specs.Int.{w16, w32}
 use Rattle.zint.specs.Wrap.{wrap, mod_z}
 use Rattle.zint.specs.WrapLaws.{wraps, wrap_add_l}

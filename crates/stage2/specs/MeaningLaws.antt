@@ -1,11 +1,9 @@
 -- Stage 2's answer has the meaning that `Meaning` gives it in words (`stage2_means`), and no other answer has (`stage2_only`): so each answer is given exactly where its words
 -- hold (`stage2_exactly`). With it the winner's range, and that of the lag that stage 3 starts from.
-use Rattle.std.specs.Prelude.{◌≡◌, Bool, cond, List, ◌⊎◌, ℕ, ◌+◌, ◌-◌, ◌*◌, ◌/◌, ◌<◌, ◌≤◌, ℤ, pos, ◌*ℤ◌, ◌≤ℤ◌, ◌<ℤ◌}
-use Rattle.std.proofs.Math.Path.{refl, ap, ap₂, subst}
-use Rattle.std.proofs.Common.{sym, ◌∙◌, ⊎_elim}
-use Rattle.std.proofs.Math.Bool.{true, false, ◌&&◌, false≢true}
+use Rattle.std.specs.Prelude.{◌≡◌, Bool, cond, List, ◌⊎◌, ℕ, ◌+◌, ◌-◌, ◌*◌, ◌/◌, ◌<◌, ◌≤◌, ℤ, pos, ◌*ℤ◌, ◌≤ℤ◌, ◌<ℤ◌, refl, true, false, ◌&&◌}
+use Rattle.std.proofs.Common.{sym, ◌∙◌, ⊎_elim, ap, ap₂, subst, arith}
+use Rattle.std.proofs.Math.Bool.{false≢true}
 use Rattle.std.proofs.Math.Decide.{dec_lt}
-use native.Mathlib.Omega.{arith}
 use Rattle.std.specs.Int.Signed.{lt_z, quot_z, clash_ℤ}
 use Rattle.silk_macros.specs.Divide.{by_zero}
 use Rattle.silk_macros.specs.DivideLaws.{by_zero_is}

@@ -1,11 +1,9 @@
 -- Laws of stage 2's numbers: sums over the subframes, sizes by which every step fits, and the best contour.
 use Rattle.std.specs.Prelude.{◌≡◌, refl, Bool, true, false, ◌&&◌, cond, ℕ, zero, suc, ◌+◌, ◌*◌, ◌/◌, ◌^◌, ◌<◌, ◌≤◌, eqb, ℤ, pos, negsuc, nat_abs, ◌+ℤ◌, ◌-ℤ◌, ◌*ℤ◌, ◌≤ℤ◌, ◌<ℤ◌}
-use Rattle.std.proofs.Math.Path.{sym, ap}
-use Rattle.std.proofs.Common.{ap₂, ◌∙◌, div-lt_iff_lt-mul, add-one, arith, eq-eqb, ne_eqb, lit<}
-use Rattle.std.proofs.Math.Nat.{mul-le-mul_right}
+use Rattle.std.proofs.Common.{ap₂, ◌∙◌, div-lt_iff_lt-mul, add-one, arith, eq-eqb, ne_eqb, lit<, sym, ap, mul-le-mul_right, SFits}
 use Rattle.std.specs.Int.Signed.{lt_z, shr_z, quot_z}
 use Rattle.std.specs.Int.{w16, w32}
-use mir.Val.{SFits, sel}
+use mir.Val.{sel}
 use Rattle.zint.specs.BoundLaws.{abs_ud, abs_add, abs_sub, abs_prod, abs_neg, fits_abs}
 use Rattle.zint.specs.DiffLaws.{le_of, lt_of, v, n as num, ◌⊖◌, ring}
 use Rattle.zint.specs.ShiftLaws.{nonneg_abs}

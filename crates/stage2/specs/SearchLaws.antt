@@ -1,9 +1,6 @@
 -- Laws of the search from the front: a lag's contours, one lag more, what is known after n lags, and the array of the correlations.
-use Rattle.std.specs.Prelude.{Option, Some, None, ◌≡◌, Bool, List, [], ◌⊎◌, eqb, ℕ, ◌+◌, ◌-◌, ◌<◌, ◌≤◌, ℤ, negsuc, nat_abs, ◌*ℤ◌, get_or, replicate, ◌≤ℤ◌, ◌<ℤ◌}
-use Rattle.std.proofs.Math.Path.{refl, sym, ap}
-use Rattle.std.proofs.Common.{ap₂, ◌∙◌, subst₂, arith, inl, inr, ⊎_elim, eqb-true}
-use Rattle.std.proofs.Math.Bool.{true, false, ◌&&◌, ◌||◌, cond}
-use Rattle.std.proofs.Math.IntN.{pos}
+use Rattle.std.specs.Prelude.{Option, Some, None, ◌≡◌, Bool, List, [], ◌⊎◌, eqb, ℕ, ◌+◌, ◌-◌, ◌<◌, ◌≤◌, ℤ, negsuc, nat_abs, ◌*ℤ◌, get_or, replicate, ◌≤ℤ◌, ◌<ℤ◌, refl, true, false, ◌&&◌, ◌||◌, cond, pos}
+use Rattle.std.proofs.Common.{ap₂, ◌∙◌, subst₂, arith, inl, inr, ⊎_elim, eqb-true, sym, ap}
 use Rattle.std.specs.Int.Signed.{lt_z, quot_z}
 use Rattle.best.specs.Best.{Place, none, at, BestOf}
 use Rattle.best.specs.BestLaws.{some_true, some_false}

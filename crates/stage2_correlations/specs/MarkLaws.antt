@@ -1,11 +1,8 @@
 -- Laws of the marked lags: the tests by their bounds.
-use Rattle.std.specs.Prelude.{◌≡◌, Bool, true, false, List, ℕ, ◌+◌, ◌*◌, ◌≤◌, ◌<◌, length}
-use Rattle.std.proofs.Math.Path.{refl, ap, ap₂}
-use Rattle.std.proofs.Common.{◌∙◌, arith, le-leb, leb-true}
-use Rattle.std.proofs.Math.Bool.{◌&&◌, and-false}
+use Rattle.std.specs.Prelude.{◌≡◌, Bool, true, false, List, ℕ, ◌+◌, ◌*◌, ◌≤◌, ◌<◌, length, refl, ◌&&◌, leb, get_or}
+use Rattle.std.proofs.Common.{◌∙◌, arith, le-leb, leb-true, ap, ap₂}
+use Rattle.std.proofs.Math.Bool.{and-false}
 use Rattle.std.proofs.lemmas.Bool.{lt-leb}
-use Rattle.std.proofs.Math.Dec.{leb}
-use Rattle.std.proofs.Math.ListN.{get_or}
 use Rattle.best.specs.BestLaws.{some_true, some_false}
 use Rattle.stage2_correlations.specs.Marks.{mark_near, near}
 

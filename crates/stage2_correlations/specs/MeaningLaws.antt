@@ -1,14 +1,7 @@
 -- The listed and the measured lags are those of `Meaning`'s words; examples of them; at most 24 lags are listed.
-use Rattle.std.specs.Prelude.{◌≡◌, Bool, ◌&&◌, ◌||◌, cond, List, [], ◌∷◌}
-use Rattle.std.proofs.Math.Path.{refl}
-use Rattle.std.proofs.Common.{ap, ap₂, ◌∙◌, length-append}
-use Rattle.std.proofs.Math.Bool.{true, false}
+use Rattle.std.specs.Prelude.{◌≡◌, Bool, ◌&&◌, ◌||◌, cond, List, [], ◌∷◌, refl, true, false, ℕ, zero, suc, ◌+◌, ◌-◌, ◌*◌, ◌≤◌, min, leb, length, get_or}
+use Rattle.std.proofs.Common.{ap, ap₂, ◌∙◌, length-append, arith, leb-true}
 use Rattle.std.proofs.lemmas.Bool.{false≢true}
-use Prim.Native.Nat.{ℕ, zero, suc, ◌+◌, ◌-◌, ◌*◌, ◌≤◌, min}
-use native.Mathlib.Omega.{arith}
-use borrow.Author.Tests.{leb-true}
-use Rattle.std.proofs.Math.Dec.{leb}
-use Rattle.std.proofs.Math.ListN.{length, get_or}
 use Rattle.best.specs.Best.{some}
 use Rattle.best.specs.BestLaws.{some_find}
 use Rattle.stage2_correlations.specs.Marks.{mark_near, near, marked, listed, measured, Kept}

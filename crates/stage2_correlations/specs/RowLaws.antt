@@ -1,7 +1,6 @@
 -- Laws of a subframe's row: a ratio way by way, the divisor from running energies, one lag more, and the row at the marks of the kept lags.
 use Rattle.std.specs.Prelude.{Option, Some, None, unwrap_or, is_none, ◌≡◌, refl, Bool, true, false, ◌&&◌, ◌||◌, cond, List, ℕ, ◌+◌, ◌-◌, ◌<◌, ◌≤◌, ℤ, pos, nat_abs, ◌+ℤ◌, ◌-ℤ◌, ◌*ℤ◌, get_or, drop}
-use Rattle.std.proofs.Math.Path.{sym}
-use Rattle.std.proofs.Common.{ap, ap₂, ◌∙◌, add-one, arith, lit<}
+use Rattle.std.proofs.Common.{ap, ap₂, ◌∙◌, add-one, arith, lit<, sym}
 use Rattle.std.proofs.Math.Bool.{or-false, or-true}
 use Rattle.std.proofs.Math.IntN.{+ℤ_assoc}
 use Rattle.std.specs.Int.Signed.{lt_z}

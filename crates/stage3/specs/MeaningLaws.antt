@@ -1,12 +1,8 @@
 -- Stage 3's answer has the meaning that `Meaning` gives it in words (`stage3_means`), and no other answer has (`stage3_only`).
-use Rattle.std.specs.Prelude.{◌≡◌, Bool, true, false, cond, List, ◌⊎◌, ℕ, ◌+◌, ◌-◌, ◌*◌, ◌/◌, ◌%◌, ◌<◌, ◌≤◌, ℤ, pos, ◌+ℤ◌, ◌≤ℤ◌, ◌<ℤ◌}
-use Rattle.std.proofs.Math.Path.{refl, ap, ap₂}
-use Rattle.std.proofs.Common.{sym, ◌∙◌, subst, inl, inr}
-use Rattle.std.proofs.Math.Bool.{◌&&◌}
+use Rattle.std.specs.Prelude.{◌≡◌, Bool, true, false, cond, List, ◌⊎◌, ℕ, ◌+◌, ◌-◌, ◌*◌, ◌/◌, ◌%◌, ◌<◌, ◌≤◌, ℤ, pos, ◌+ℤ◌, ◌≤ℤ◌, ◌<ℤ◌, refl, ◌&&◌}
+use Rattle.std.proofs.Common.{sym, ◌∙◌, subst, inl, inr, ap, ap₂, div-add-mod', arith}
 use Rattle.std.proofs.lemmas.Bool.{false≢true}
-use Rattle.std.proofs.Math.Nat.{div-add-mod'}
 use Rattle.std.proofs.Math.Decide.{dec_lt}
-use native.Mathlib.Omega.{arith}
 use Rattle.std.proofs.Math.Arith.{digits_lt}
 use Rattle.std.specs.Int.Signed.{lt_z, clash_ℤ}
 use Rattle.zint.specs.BoolLaws.{and_left, and_right}

@@ -1,8 +1,6 @@
 -- Stage 3's answer in numbers has the verdict and the values that its definitions say.
-use Rattle.std.specs.Prelude.{◌≡◌, Bool, cond, List, ℕ, ℤ}
-use Rattle.std.proofs.Math.Path.{refl}
+use Rattle.std.specs.Prelude.{◌≡◌, Bool, cond, List, ℕ, ℤ, refl, true, false}
 use Rattle.std.proofs.Common.{ap, ◌∙◌}
-use Rattle.std.proofs.Math.Bool.{true, false}
 use Rattle.answers.specs.Answer.{answer_numbers}
 use Rattle.best.specs.Best.{Place, none, at}
 use Rattle.stage3.specs.Pick.{Found, ZeroDivisor, pair_at, zero3, best3, pick}

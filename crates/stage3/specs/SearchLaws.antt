@@ -1,18 +1,14 @@
 -- Laws of the search from the front: what one pair more makes of what is known after n pairs, and that the search over the arrays is stage 3's pick.
-use Rattle.std.specs.Prelude.{Option, Some, None, ◌≡◌, Bool, true, false, List, ℕ, ◌+◌, ◌-◌, ◌*◌, ◌/◌, ◌<◌, ◌≤◌, ℤ, pos, ◌≤ℤ◌, ◌<ℤ◌}
-use Rattle.std.proofs.Math.Path.{refl, sym, ap, ap₂, subst}
-use Rattle.std.proofs.Common.{◌∙◌, mul-le-mul_right, div-lt_iff_lt-mul, below_more, SFits}
-use Rattle.std.proofs.Math.Bool.{◌&&◌, cond}
-use Rattle.std.proofs.Math.Nat.{mod-lt}
-use native.Mathlib.Omega.{arith}
+use Rattle.std.specs.Prelude.{Option, Some, None, ◌≡◌, Bool, true, false, List, ℕ, ◌+◌, ◌-◌, ◌*◌, ◌/◌, ◌<◌, ◌≤◌, ℤ, pos, ◌≤ℤ◌, ◌<ℤ◌, refl, ◌&&◌, cond}
+use Rattle.std.proofs.Common.{◌∙◌, mul-le-mul_right, div-lt_iff_lt-mul, below_more, SFits, sym, ap, ap₂, subst, mod-lt, arith}
 use Rattle.std.proofs.Math.Arith.{digits_div, digits_mod}
 use Rattle.std.specs.Int.Signed.{lt_z}
+use Rattle.std.specs.Int.{w32}
 use Rattle.zint.specs.Minus.{minus}
 use Rattle.silk_tables.specs.Tables.{in_use}
 use Rattle.silk_tables.proofs.TableLaws.{in_use_bounds}
 use Rattle.stage3_arrays.specs.Arrays.{frame_array, cross_at, energy_at}
 use Rattle.stage3_arrays.specs.ArrayLaws.{frame_array_at}
-use Rattle.std.specs.Int.{w32}
 use Rattle.zint.specs.TestLaws.{lt_true, lt_false}
 use Rattle.zint.specs.Equal.{eq_z}
 use Rattle.silk_macros.specs.Divide.{div32_varq, quotient, by_zero}

@@ -1,9 +1,7 @@
 -- The claim over a list of deliveries: one call takes the state on paper of J to that of J after the delivery, and so a chain of calls from a fresh start does.
-use Rattle.std.specs.Prelude.{◌≡◌, refl, Ok, Err, ℕ, ◌+◌, ◌-◌, ◌*◌, ◌/◌, ◌≤◌, ◌<◌, List, [], ◌∷◌, ◌++◌, ℤ, length, take, drop}
-use Rattle.std.proofs.Common.{sym, ap, ◌∙◌, ⊎_elim, arith, ne_eqb, append_assoc, append-nil, length-append, length-drop, drop-drop, take_at, drop_at, add-mul}
+use Rattle.std.proofs.Common.{sym, ap, ◌∙◌, ⊎_elim, arith, ne_eqb, append_assoc, append-nil, length-append, length-drop, drop-drop, take_at, drop_at, add-mul, ◌≡◌, refl, Ok, Err, ℕ, ◌+◌, ◌-◌, ◌*◌, ◌/◌, ◌≤◌, ◌<◌, List, [], ◌∷◌, ◌++◌, ℤ, length, take, drop, zero-mul}
 use Rattle.std.proofs.lemmas.List.{drop-append-le}
 use Rattle.std.proofs.Math.Seq.{drop-append-add}
-use Rattle.std.proofs.Math.Nat.{zero-mul}
 use Rattle.pitch_settings.specs.declared.Settings.{Settings}
 use Rattle.pitch_settings.specs.Settings.{frame_length, hop_length, settings_no}
 use Rattle.pitch_settings.specs.SettingsLaws.{accepted_settings}

@@ -1,9 +1,7 @@
 -- The rows of a list of samples: one more row, and where rows stand in a table.
-use Rattle.std.proofs.Common.{◌∙◌, ⊎_elim, add-zero, add-suc, add-mul, take-append-drop, get_or-take, get_or-drop, drop-drop, drop_at, take_at, ℕ, zero, suc, ◌+◌, ◌*◌, ◌≤◌, ◌<◌, List, ◌++◌, append_assoc, append-nil, arith}
-use Rattle.std.specs.Prelude.{◌≡◌, Bool, true, false, cond, ℤ, pos, length, get_or}
-use Rattle.std.proofs.Math.Path.{refl, sym, ap}
-use Rattle.std.proofs.Math.ListN.{take, drop, length-append, length-drop}
-use Rattle.std.proofs.Math.Seq.{length-take-le, take-append-le}
+use Rattle.std.specs.Prelude.{◌≡◌, Bool, true, false, cond, ℤ, pos, length, get_or, ℕ, zero, suc, ◌+◌, ◌*◌, ◌≤◌, ◌<◌, List, ◌++◌, refl, take, drop}
+use Rattle.std.proofs.Common.{◌∙◌, ⊎_elim, add-zero, add-suc, add-mul, take-append-drop, get_or-take, get_or-drop, drop-drop, drop_at, take_at, append_assoc, append-nil, arith, sym, ap, length-append, length-drop, length-take-le}
+use Rattle.std.proofs.Math.Seq.{take-append-le}
 use Rattle.std.proofs.lemmas.List.Edits.{sets, sets-eq}
 use Rattle.std.proofs.lemmas.List.{drop-append-le}
 use Rattle.track_settings.specs.declared.TrackSettings.{TrackSettings}

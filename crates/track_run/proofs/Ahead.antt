@@ -1,8 +1,5 @@
 -- The laws of a run: what is left of a chain while it goes on, and what it has left at its end.
-use Rattle.std.specs.Prelude.{◌≡◌, refl, Result, ℕ, suc, ◌+◌, ◌*◌, ◌≤◌, ◌<◌, min, List, [], ◌∷◌, ◌++◌, ℤ, length, get_or, take, drop}
-use Rattle.std.proofs.Common.{sym, ap, subst, ◌∙◌, add-one, append_assoc, append-nil, eq-eqb, ne_eqb, length-take, take_all, take_at, drop-cons}
-use Rattle.std.proofs.Math.ListN.{set, drop_of_length-le}
-use Rattle.std.proofs.Math.Seq.{take-suc-set}
+use Rattle.std.proofs.Common.{sym, ap, subst, ◌∙◌, add-one, append_assoc, append-nil, eq-eqb, ne_eqb, length-take, take_all, take_at, drop-cons, ◌≡◌, refl, Result, ℕ, suc, ◌+◌, ◌*◌, ◌≤◌, ◌<◌, min, List, [], ◌∷◌, ◌++◌, ℤ, length, get_or, take, drop, set, drop_of_length-le, take-suc-set}
 use Rattle.std.proofs.lemmas.List.{map-append, length-map}
 use Rattle.refusals.specs.declared.Refusal.{Refusal}
 use Rattle.refusals.specs.Refusals.{told}

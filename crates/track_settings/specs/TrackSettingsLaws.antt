@@ -1,9 +1,6 @@
 -- Laws of a track's settings: sizes and refusals 1 to 3 do not depend on the second threshold, and what accepted ones say.
-use Rattle.std.proofs.Common.{eqb-true}
-use Rattle.std.specs.Prelude.{◌≡◌, Bool, ℤ, pos}
-use Rattle.std.proofs.Math.Path.{refl, sym}
-use Rattle.std.proofs.Math.Bool.{true, false, cond}
-use Rattle.std.proofs.Math.Dec.{eqb}
+use Rattle.std.specs.Prelude.{◌≡◌, Bool, ℤ, pos, refl, true, false, cond, eqb}
+use Rattle.std.proofs.Common.{eqb-true, sym}
 use Rattle.pitch_settings.specs.declared.Settings.{Settings}
 use Rattle.pitch_settings.specs.Settings.{settings_no, frame_length}
 use Rattle.speech_threshold.specs.Threshold.{in_range, threshold_no}

@@ -1,10 +1,5 @@
 -- Writing accepts what every chain of deliveries leaves.
-use Rattle.std.specs.Prelude.{Ok, ◌≡◌, refl, true, List, [], ◌∷◌, ◌++◌, ℕ, zero, suc, ◌*◌, ◌≤◌, ◌<◌, ℤ, length, get_or, take, drop}
-use Rattle.std.proofs.Math.Path.{sym, ap}
-use Rattle.std.proofs.Common.{◌∙◌, ⊎_elim, arith, take_at, SFits}
-use Rattle.std.proofs.Math.ListN.{length-drop}
-use Rattle.std.proofs.Math.Seq.{length-take-le}
-use Rattle.std.specs.Int.{w32}
+use Rattle.std.proofs.Common.{◌∙◌, ⊎_elim, arith, take_at, SFits, Ok, ◌≡◌, refl, true, List, [], ◌∷◌, ◌++◌, ℕ, zero, suc, ◌*◌, ◌≤◌, ◌<◌, ℤ, length, get_or, take, drop, sym, ap, length-drop, length-take-le, w32}
 use Rattle.lists.specs.Fill.{tabulate}
 use Rattle.lists.specs.FillLaws.{length_tabulate, get_d_tabulate, tabulate_ext}
 use Rattle.track_settings.specs.declared.TrackSettings.{TrackSettings}

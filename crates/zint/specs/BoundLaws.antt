@@ -1,9 +1,9 @@
 -- Bounds on integers. A bound is on the size, `nat_abs z ≤ K`: it is kept by a product and a sum, and gives the fit of a width.
 use Rattle.std.specs.Prelude.{◌≡◌, refl, ℕ, zero, suc, ◌+◌, ◌*◌, ◌^◌, ◌≤◌, ◌<◌, T, leb, ltb, ℤ, pos, negsuc, neg_ℤ, nat_abs, ◌+ℤ◌, ◌-ℤ◌, ◌*ℤ◌}
-use Rattle.std.proofs.Common.{mul-le-mul, le_trans, le_of_eq, lt_of_le_of_lt, lt_of_lt_of_le, div-lt_iff_lt-mul, arith, ltb→lt, leb→le}
+use Rattle.std.proofs.Common.{mul-le-mul, le_trans, le_of_eq, lt_of_le_of_lt, lt_of_lt_of_le, div-lt_iff_lt-mul, arith, ltb→lt, leb→le, SFits}
 use Rattle.std.specs.Int.Signed.{mag, shr_z, mag_shr, nat_abs-le}
 use Rattle.std.specs.Int.{Width, w16, w32, w64}
-use mir.Val.{SFits, hbits}
+use mir.Val.{hbits}
 use mir.ValLaws.{sfits_le}
 use Rattle.zint.specs.DiffLaws.{up, dn, add_ud, sub_ud'}
 

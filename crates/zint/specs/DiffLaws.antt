@@ -2,11 +2,11 @@
 -- (`up a + dn b` against `up b + dn a`), which `omega` proves. `Ex` writes an integer expression; `pos_part e` and `neg_part e` are two naturals whose
 -- difference is its value, by +, * alone, so that `omega` sees the variables' `up` and `dn` and nothing else.
 use Rattle.std.specs.Prelude.{◌≡◌, refl, Bool, true, false, not, cond, ℕ, zero, suc, ◌+◌, ◌-◌, ◌*◌, ◌^◌, ◌≤◌, ◌<◌, T, ltb, ℤ, pos, negsuc, neg_ℤ, ◌+ℤ◌, ◌-ℤ◌, ◌*ℤ◌, ◌≤ℤ◌, ◌<ℤ◌}
-use Rattle.std.proofs.Common.{ap, subst, arith, ltb→lt, lt→ltb, nltb→le, leb→le, le→leb}
+use Rattle.std.proofs.Common.{ap, subst, arith, ltb→lt, lt→ltb, nltb→le, leb→le, le→leb, SFits}
 use Rattle.std.proofs.Math.IntN.{sub_ℕ}
 use Rattle.std.specs.Int.Signed.{mag, lt_z, le_z}
 use Rattle.std.specs.Int.{Width}
-use mir.Val.{SFits, hbits}
+use mir.Val.{hbits}
 
 abbrev pub up : ℤ → ℕ
 up (pos n) = n

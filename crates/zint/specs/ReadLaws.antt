@@ -1,14 +1,14 @@
 -- What the bits of a signed local stand for. `Reads w m z`: the bits m, of the width w, are those of the number z. There is one rule for each operation of the
 -- machine, so that a derivation follows the code's expression: `r_add (r_cast ra) (r_cast rb)` for `a as i64 + b as i64`. `.val` is the equation that a `returns` or a
 -- callee's `requires` wants, and `.fit` that the number fits.
-use Rattle.std.specs.Prelude.{◌≡◌, refl, Bool, ℕ, zero, suc, ◌-◌, ◌*◌, ◌%◌, ◌^◌, ◌≤◌, ◌<◌, T, leb, ltb, ℤ, pos, negsuc, nat_abs, ◌+ℤ◌, ◌-ℤ◌, ◌*ℤ◌}
-use Rattle.std.proofs.Common.{sym, ap, ap₂, ◌∙◌, subst, lt_of_lt_of_le, mod-lt, zero-lt-suc, ltb→lt, pow_pos}
-use Rattle.std.specs.Int.Bits.{bit_and}
+use Rattle.std.specs.Prelude.{◌≡◌, refl, Bool, ℕ, zero, suc, ◌-◌, ◌*◌, ◌%◌, ◌^◌, ◌≤◌, ◌<◌, T, leb, ltb, ℤ, pos, negsuc, nat_abs, ◌+ℤ◌, ◌-ℤ◌, ◌*ℤ◌, bit_and}
+use Rattle.std.proofs.Common.{sym, ap, ap₂, ◌∙◌, subst, lt_of_lt_of_le, mod-lt, zero-lt-suc, ltb→lt, pow_pos, Fits, SFits, to_z, of_z}
 use Rattle.std.proofs.lemmas.Nat.{and_mask}
 use Rattle.std.specs.Int.Signed.{mag, non_neg, shr_z, quot_z, lt_z, le_z}
 use Rattle.std.specs.Int.{Width, w16, w32, w64}
-use mir.Val.{Fits, SFits, bits, hbits, to_z, of_z}
-use mir.ValLaws.{to_z-of_z, of_z_fits, Fits-wrap, to_z_pos, to_z-neg, half_full}
+use Rattle.std.proofs.lemmas.Int.{to_z-of_z, to_z_pos}
+use mir.Val.{bits, hbits}
+use mir.ValLaws.{of_z_fits, Fits-wrap, to_z-neg, half_full}
 use Rattle.zint.specs.Wrap.{wrap, mod_z}
 use Rattle.zint.specs.WrapLaws.{wrap_fits, shl_wrap, mod_z_is, Cong, cong_sym, cong_trans, cong_part, to_z_cong, mod_cong}
 use Rattle.zint.specs.BoundLaws.{shr_fits, widen}

@@ -1,7 +1,7 @@
 -- `cases_sheet::record_agrees` meets its contract: the record fits the body, and the part that was lent comes back as long as it went.
 use Rattle.std.proofs.Common.{◌≡◌, ℕ, ◌+◌, ◌*◌, ◌++◌, List, length, take, drop, replicate, sym, ◌∙◌, length-take-le, arith}
 use Rattle.std.proofs.lemmas.List.{length-replicate}
-use lib.Seq.{length_front}
+use Rattle.std.proofs.Math.Seq.{length_front}
 use Rattle.cases_sheet.specs.Rooms.{body_room}
 use Rattle.cases_sheet.proofs.record_agrees.Goals as goal
 

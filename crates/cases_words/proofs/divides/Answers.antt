@@ -1,11 +1,7 @@
 -- `cases_words::divides` meets its contract.
-use mathlib.Core.Bool.{not, false≢true}
-use mathlib.Core.Path.{◌≡◌, sym, ap, ◌∙◌, subst}
-use borrow.Author.Tests.{eq-eqb}
-use lib.IntN.{ℤ, negsuc}
-use lib.Signed.{quot_z}
-use mir.Syntax.{w32}
-use mir.Val.{SFits, to_z, of_z}
+use Rattle.std.proofs.Common.{not, ◌≡◌, sym, ap, ◌∙◌, subst, eq-eqb, ℤ, negsuc, w32, SFits, to_z, of_z}
+use Rattle.std.proofs.Math.Bool.{false≢true}
+use Rattle.std.specs.Int.Signed.{quot_z}
 use Rattle.zint.specs.ReadLaws.{r_var}
 use Rattle.cases_words.specs.QuotientLaws.{quotient_fits, negated_fits}
 use Rattle.cases_words.proofs.divides.Goals as goal

@@ -1,11 +1,5 @@
 -- `frame_signals::frame_8khz` meets its contract: each way fills the buffer with the signal of its rate.
-use mathlib.Core.Path.{◌≡◌, sym, ap, ◌∙◌}
-use mathlib.Core.List.{List, ◌++◌}
-use Prim.Native.Nat.{ℕ, ◌≤◌}
-use native.Mathlib.Omega.{arith}
-use lib.IntN.{ℤ}
-use lib.ListN.{length, drop}
-use lib.Seq.{length-take-le}
+use Rattle.std.proofs.Common.{◌≡◌, sym, ap, ◌∙◌, List, ◌++◌, ℕ, ◌≤◌, arith, ℤ, length, drop, length-take-le}
 use Rattle.lists.specs.Fill.{overwritten}
 use Rattle.silk_resampler.specs.Down2Laws.{down2_length}
 use Rattle.silk_resampler.specs.Down23Laws.{down2_3-length}

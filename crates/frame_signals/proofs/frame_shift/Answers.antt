@@ -1,7 +1,5 @@
 -- `frame_signals::frame_shift` meets its contract.
-use Rattle.std.proofs.Common.{◌≡◌, ap, ap₂, ◌∙◌, length, take, take_all}
-use Prim.Native.Nat.{ℕ, ◌+◌, ◌/◌, ◌<◌}
-use native.Mathlib.Omega.{arith}
+use Rattle.std.proofs.Common.{◌≡◌, ap, ap₂, ◌∙◌, length, take, take_all, ℕ, ◌+◌, ◌/◌, ◌<◌, arith}
 use Rattle.silk_sigproc.specs.SumSqr.{excess}
 use Rattle.silk_sigproc.specs.SumSqrLaws.{excess_within}
 use Rattle.frame_signals.specs.Scale.{down_shift}

@@ -1,8 +1,5 @@
 -- `frame_signals::halve_into` meets its contract.
-use mathlib.Core.Path.{◌∙◌}
-use Prim.Native.Nat.{◌/◌}
-use lib.IntN.{pos}
-use lib.ListN.{length}
+use Rattle.std.proofs.Common.{◌∙◌, ◌/◌, pos, length}
 use Rattle.lists.specs.Signal.{sample}
 use Rattle.silk_resampler.specs.Down2.{halved, down2}
 use Rattle.lists.specs.PushLaws.{filled_overwritten}

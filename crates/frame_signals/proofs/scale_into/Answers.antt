@@ -1,10 +1,5 @@
 -- `frame_signals::scale_into` meets its contract.
-use mathlib.Core.Path.{◌≡◌, refl, sym, ap, ◌∙◌}
-use Prim.Native.Nat.{ℕ, ◌^◌}
-use native.Mathlib.Omega.{arith}
-use lib.IntN.{pos}
-use lib.ListN.{length, get_or, length-set}
-use mir.Syntax.{w16}
+use Rattle.std.proofs.Common.{◌≡◌, refl, sym, ap, ◌∙◌, ℕ, ◌^◌, arith, pos, length, get_or, length-set, w16}
 use Rattle.zint.specs.ReadLaws.{r_elem, r_shr}
 use Rattle.zint.specs.RuleLaws.{zneeds}
 use Rattle.lists.specs.Fill.{filled}

@@ -1,7 +1,5 @@
 -- The invariants of `scale_into`.
-use mathlib.Core.Path.{◌≡◌}
-use Prim.Native.Nat.{◌≤◌}
-use lib.ListN.{length}
+use Rattle.std.proofs.Common.{◌≡◌, ◌≤◌, length}
 use Rattle.lists.specs.Fill.{filled}
 use Rattle.frame_signals.specs.Scale.{shifted_at, moved_count}
 use Rattle.frame_signals.proofs.scale_into.Given as goal

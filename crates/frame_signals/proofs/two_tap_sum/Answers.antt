@@ -1,6 +1,5 @@
 -- `frame_signals::two_tap_sum` meets its contract.
-use Rattle.std.proofs.Common.{◌≡◌, refl, sym, ap, ap₂, ◌∙◌, subst, arith, ℕ, zero, suc, get_or, length-set, List, ℤ, pos, negsuc, ◌+ℤ◌, SFits, to_z, of_z, add-one}
-use Rattle.std.specs.Int.{w16}
+use Rattle.std.proofs.Common.{◌≡◌, refl, sym, ap, ap₂, ◌∙◌, subst, arith, ℕ, zero, suc, get_or, length-set, List, ℤ, pos, negsuc, ◌+ℤ◌, SFits, to_z, of_z, add-one, w16}
 use Rattle.zint.specs.Clamp.{sat}
 use Rattle.zint.specs.ClampLaws.{clamp_in}
 use Rattle.zint.specs.DiffLaws.{eq_of, le_of, add_ud, sfits_up, sfits_dn}

@@ -1,7 +1,5 @@
 -- `frame_signals::two_thirds_into` meets its contract.
-use mathlib.Core.Path.{◌∙◌}
-use Prim.Native.Nat.{◌*◌, ◌/◌}
-use lib.ListN.{length}
+use Rattle.std.proofs.Common.{◌∙◌, ◌*◌, ◌/◌, length}
 use Rattle.silk_resampler.specs.Down23.{down2_3}
 use Rattle.lists.specs.PushLaws.{filled_overwritten}
 use Rattle.frame_signals.proofs.two_thirds_into.Goals as goal

@@ -1,6 +1,5 @@
 -- `pitch_export::pitch_frame` meets its contract.
-use Rattle.std.proofs.Common.{◌≡◌, sym, ap, ◌∙◌, List, ℤ, w32, SFits, to_z, of_z}
-use Rattle.std.specs.Prelude.{Result, ℕ}
+use Rattle.std.proofs.Common.{◌≡◌, sym, ap, ◌∙◌, List, ℤ, w32, SFits, to_z, of_z, Result, ℕ}
 use Rattle.zint.specs.ReadLaws.{r_var}
 use Rattle.silk_pitch_analysis.specs.declared.Verdict.{Verdict}
 use Rattle.silk_pitch_analysis.specs.Frame.{frame_outcome, frame_call}

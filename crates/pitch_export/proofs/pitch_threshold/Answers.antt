@@ -1,6 +1,5 @@
 -- `pitch_export::pitch_threshold` meets its contract.
-use Rattle.std.proofs.Common.{◌≡◌, sym, ap, ◌∙◌, ℤ, w32, SFits, to_z, of_z}
-use Rattle.std.specs.Prelude.{Result, ℕ}
+use Rattle.std.proofs.Common.{◌≡◌, sym, ap, ◌∙◌, ℤ, w32, SFits, to_z, of_z, Result, ℕ}
 use Rattle.zint.specs.ReadLaws.{r_var}
 use Rattle.zint.specs.RuleLaws.{zneeds}
 use Rattle.speech_threshold.specs.Threshold.{threshold_call}

@@ -1,9 +1,5 @@
 -- `pitch_input::load_samples` meets its contract.
-use mathlib.Core.Path.{◌≡◌, refl, sym, ap, ◌∙◌}
-use Prim.Native.Nat.{ℕ, ◌+◌, ◌*◌}
-use native.Mathlib.Omega.{arith}
-use lib.ListN.{length, length-set}
-use mir.Syntax.{w16}
+use Rattle.std.proofs.Common.{◌≡◌, refl, sym, ap, ◌∙◌, ℕ, ◌+◌, ◌*◌, arith, length, length-set, w16}
 use Rattle.zint.specs.ReadLaws.{r_got}
 use Rattle.lists.specs.FillLaws.{filled_none, filled_turn}
 use Rattle.pitch_input.specs.Input.{sample_at, samples_from}

@@ -1,7 +1,5 @@
 -- The invariants of `load_samples`.
-use mathlib.Core.Path.{◌≡◌}
-use Prim.Native.Nat.{ℕ, ◌+◌, ◌*◌}
-use lib.ListN.{length}
+use Rattle.std.proofs.Common.{◌≡◌, ℕ, ◌+◌, ◌*◌, length}
 use Rattle.lists.specs.Fill.{filled}
 use Rattle.pitch_input.specs.Input.{sample_at}
 use Rattle.pitch_input.proofs.load_samples.Given as goal

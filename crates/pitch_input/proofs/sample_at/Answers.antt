@@ -1,8 +1,6 @@
 -- `pitch_input::sample_at` meets its contract.
-use Rattle.std.proofs.Common.{◌≡◌, ℕ, ◌<◌, ◌%◌, pos, ap, sym, ◌∙◌, arith, rules}
+use Rattle.std.proofs.Common.{◌≡◌, ℕ, ◌<◌, ◌%◌, pos, ap, sym, ◌∙◌, arith, rules, w16, to_z}
 use Rattle.std.proofs.lemmas.Int.{to_z-of_z}
-use mir.Syntax.{w16}
-use mir.Val.{to_z}
 use Rattle.zint.specs.Wrap.{wrap, mod_z}
 use Rattle.pitch_input.specs.Input.{sample_at}
 use Rattle.pitch_input.proofs.sample_at.Goals as goal

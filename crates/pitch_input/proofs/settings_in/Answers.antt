@@ -1,5 +1,5 @@
 -- `pitch_input::settings_in` meets its contract.
-use mir.Syntax.{w32}
+use Rattle.std.proofs.Common.{w32}
 use Rattle.zint.specs.ReadLaws.{r_got}
 use Rattle.pitch_input.specs.Input.{input_settings}
 use Rattle.pitch_input.proofs.settings_in.Goals as goal

@@ -1,6 +1,5 @@
 -- `pitch_recording::check` meets its contract.
-use Rattle.std.proofs.Common.{◌≡◌, List, ℕ, sym, ap, ◌∙◌, rules}
-use Rattle.std.specs.Prelude.{Bool, false, ltb, pos}
+use Rattle.std.proofs.Common.{◌≡◌, List, ℕ, sym, ap, ◌∙◌, rules, Bool, false, ltb, pos}
 use Rattle.pitch_settings.specs.declared.Settings.{Settings}
 use Rattle.refusals.specs.Refusals.{number_told}
 use Rattle.track_settings.specs.declared.TrackSettings.{TrackSettings}

@@ -1,7 +1,5 @@
 -- `pitch_recording::is_long` meets its contract.
-use Rattle.std.proofs.Common.{ℕ, ◌+◌, ◌*◌, ◌∙◌, arith}
-use Rattle.std.specs.Prelude.{leb}
-use mathlib.Core.Path.{ap₂}
+use Rattle.std.proofs.Common.{ℕ, ◌+◌, ◌*◌, ◌∙◌, arith, leb, ap₂}
 use Rattle.pitch_settings.specs.SettingsLaws.{accepted_settings}
 use Rattle.pitch_recording.specs.Recording.{program_frames}
 use Rattle.pitch_recording.specs.RecordingLaws.{hop_small, long_is}

@@ -1,6 +1,5 @@
 -- `pitch_recording::take_recording` meets its contract.
-use Rattle.std.proofs.Common.{◌≡◌, refl, List, ◌++◌, ℕ, ℤ, ◌-◌, ◌/◌, ◌≤◌, length, take, drop, sym, ap, ◌∙◌, arith, rules}
-use lib.Seq.{length-take-le}
+use Rattle.std.proofs.Common.{◌≡◌, refl, List, ◌++◌, ℕ, ℤ, ◌-◌, ◌/◌, ◌≤◌, length, take, drop, sym, ap, ◌∙◌, arith, rules, length-take-le}
 use Rattle.lists.specs.Fill.{overwritten}
 use Rattle.pitch_input.specs.Input.{samples_from}
 use Rattle.pitch_input.specs.InputLaws.{loaded_over}

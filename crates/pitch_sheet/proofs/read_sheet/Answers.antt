@@ -1,11 +1,10 @@
 -- `pitch_sheet::read_sheet` meets its contract.
-use Rattle.std.proofs.Common.{◌≡◌, rules, sym, ◌∙◌, ap, arith, ℕ, List, ◌++◌, ◌*◌, ◌≤◌, drop}
-use Rattle.std.specs.Prelude.{Result, Ok, Err}
+use Rattle.std.proofs.Common.{◌≡◌, rules, sym, ◌∙◌, ap, arith, ℕ, List, ◌++◌, ◌*◌, ◌≤◌, drop, Result, Ok, Err}
+use Rattle.std.proofs.lemmas.List.Edits.{sets}
 use Rattle.refusals.specs.RefusalsLaws.{number_positive}
 use Rattle.pitch_settings.specs.declared.Settings.{Settings}
 use Rattle.pitch_table.specs.Row.{row_size}
 use Rattle.sheet_page.specs.Page.{sheet_settings, frames_in, rows_in, numbers_of}
-use Rattle.std.proofs.lemmas.List.Edits.{sets}
 use Rattle.pitch_sheet.specs.Calls.{whole_rows, got, told_read}
 use Rattle.pitch_sheet.specs.CallsLaws.{read_malformed, read_short, read_done, read_answer, rows_in-length, front}
 use Rattle.pitch_sheet.proofs.read_sheet.Goals as goal

@@ -1,6 +1,5 @@
 -- `pitch_sheet::write_sheet` meets its contract.
-use Rattle.std.proofs.Common.{◌≡◌, rules, sym, ◌∙◌, ap, arith, ℕ, length}
-use Rattle.std.specs.Prelude.{Result, Ok, Err}
+use Rattle.std.proofs.Common.{◌≡◌, rules, sym, ◌∙◌, ap, arith, ℕ, length, Result, Ok, Err}
 use Rattle.refusals.specs.Refusals.{told}
 use Rattle.refusals.specs.RefusalsLaws.{number_positive}
 use Rattle.lists.specs.Put.{Put}

@@ -1,7 +1,5 @@
 -- `pitch_table::put_row` meets its contract: a part of the table is overwritten.
-use Rattle.std.proofs.Common.{◌≡◌, sym, arith, ◌∙◌, ap, append_assoc}
-use Rattle.std.specs.Prelude.{ℕ, ℤ, List, ◌+◌, ◌-◌, ◌*◌, ◌++◌, ◌≤◌, length, take, drop}
-use Rattle.std.proofs.lemmas.List.{drop-drop}
+use Rattle.std.proofs.Common.{◌≡◌, sym, arith, ◌∙◌, ap, append_assoc, ℕ, ℤ, List, ◌+◌, ◌-◌, ◌*◌, ◌++◌, ◌≤◌, length, take, drop, drop-drop}
 use Rattle.std.proofs.lemmas.List.Edits.{sets, sets-eq}
 use Rattle.pitch_table.specs.Row.{row_size, numbers}
 use Rattle.pitch_table.proofs.put_row.Goals as goal

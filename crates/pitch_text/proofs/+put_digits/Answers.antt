@@ -1,10 +1,6 @@
 -- `pitch_text::put_digits` meets its contract: the call of itself leaves the same length, and the place after the digits that it wrote.
-use mathlib.Core.Path.{refl, sym, ap, ap₂, ◌∙◌}
-use mathlib.Core.List.{List, [], ◌∷◌}
-use Prim.Native.Nat.{ℕ, ◌+◌, ◌/◌, ◌%◌}
-use native.Mathlib.Omega.{arith}
-use lib.ListN.{length, set}
-use lib.Seq.{sets}
+use Rattle.std.proofs.Common.{refl, sym, ap, ap₂, ◌∙◌, List, [], ◌∷◌, ℕ, ◌+◌, ◌/◌, ◌%◌, arith, length, set}
+use Rattle.std.proofs.Math.Seq.{sets}
 use Rattle.lists.specs.PutLaws.{sets_append}
 use Rattle.pitch_text.specs.Decimal.{digits}
 use Rattle.pitch_text.specs.DecimalLaws.{digits_one, digits_more, length_one, length_more}

@@ -1,12 +1,5 @@
 -- `pitch_text::put_fields` meets its contract.
-use mathlib.Core.Path.{refl, sym, ap, ◌∙◌}
-use Prim.Native.Nat.{ℕ}
-use native.Mathlib.Numerals.{add-one}
-use native.Mathlib.Omega.{arith}
-use lib.IntN.{pos}
-use lib.ListN.{get_or, take, length-set}
-use mir.Syntax.{w32}
-use mir.Val.{SFits}
+use Rattle.std.proofs.Common.{refl, sym, ap, ◌∙◌, ℕ, add-one, arith, pos, get_or, take, length-set, w32, SFits}
 use Rattle.zint.specs.ReadLaws.{r_var}
 use Rattle.zint.specs.RuleLaws.{zneeds}
 use Rattle.pitch_text.specs.Decimal.{decimal}

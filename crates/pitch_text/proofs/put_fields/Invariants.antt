@@ -1,5 +1,5 @@
 -- The invariants of `put_fields`.
-use Rattle.std.specs.Prelude.{◌≡◌, ◌+◌, ◌*◌, ◌≤◌, length, take}
+use Rattle.std.proofs.Common.{◌≡◌, ◌+◌, ◌*◌, ◌≤◌, length, take}
 use Rattle.pitch_text.specs.Text.{Put, field_bytes, fields}
 use Rattle.pitch_text.proofs.put_fields.Given as goal
 

@@ -1,6 +1,5 @@
 -- `pitch_text::put_line` meets its contract.
-use native.Mathlib.Omega.{arith}
-use lib.ListN.{length-set}
+use Rattle.std.proofs.Common.{arith, length-set}
 use Rattle.pitch_text.specs.Text.{line_text}
 use Rattle.pitch_text.specs.DecimalLaws.{digits_word}
 use Rattle.pitch_text.specs.TextLaws.{put_then, put_byte}

@@ -1,6 +1,5 @@
 -- `pitch_text::put_lines` meets its contract. The invariant: the lines of the rows before i are written.
-use mathlib.Core.Path.{refl, ap, ◌∙◌}
-use native.Mathlib.Omega.{arith}
+use Rattle.std.proofs.Common.{refl, ap, ◌∙◌, arith}
 use Rattle.pitch_table.specs.Row.{row_at}
 use Rattle.pitch_text.specs.Text.{line_text}
 use Rattle.pitch_text.specs.TextLaws.{put_then, put_as, put_none, lines_none, lines_next}

@@ -1,7 +1,5 @@
 -- The invariants of `put_lines`.
-use mathlib.Core.Path.{◌≡◌}
-use Prim.Native.Nat.{◌+◌, ◌*◌, ◌≤◌}
-use lib.ListN.{length}
+use Rattle.std.proofs.Common.{◌≡◌, ◌+◌, ◌*◌, ◌≤◌, length}
 use Rattle.pitch_table.specs.Row.{row_at}
 use Rattle.pitch_text.specs.Text.{Put, lines_text}
 use Rattle.pitch_text.proofs.put_lines.Given as goal

@@ -1,10 +1,5 @@
 -- `pitch_text::put_number` meets its contract: the sign, then the digits of the size.
-use mathlib.Core.Path.{◌≡◌, sym, ap, ◌∙◌}
-use mathlib.Core.List.{◌∷◌}
-use Prim.Native.Nat.{ℕ}
-use native.Mathlib.Omega.{arith}
-use lib.IntN.{pos, nat_abs}
-use lib.ListN.{length, length-set}
+use Rattle.std.proofs.Common.{◌≡◌, sym, ap, ◌∙◌, ◌∷◌, ℕ, arith, pos, nat_abs, length, length-set}
 use Rattle.zint.specs.ReadLaws.{r_var, t_below}
 use Rattle.pitch_text.specs.Decimal.{digits, decimal}
 use Rattle.pitch_text.specs.TextLaws.{put_then, put_as, put_byte, decimal_minus, decimal_plus}

@@ -1,6 +1,5 @@
 -- `pitch_track::put_rows` meets its contract. The invariant: i rows are written, and `q` is what the last of them left.
-use Rattle.std.specs.Prelude.{◌≡◌, refl, ℕ, ◌+◌, ◌*◌, ◌≤◌, ◌<◌, List, ◌++◌, ℤ, length, take, drop}
-use Rattle.std.proofs.Common.{w32, SFits, to_z, of_z, ap, ◌∙◌, add-one, rules, arith}
+use Rattle.std.proofs.Common.{w32, SFits, to_z, of_z, ap, ◌∙◌, add-one, rules, arith, ◌≡◌, refl, ℕ, ◌+◌, ◌*◌, ◌≤◌, ◌<◌, List, ◌++◌, ℤ, length, take, drop}
 use Rattle.std.proofs.lemmas.List.Edits.{sets}
 use Rattle.zint.specs.ReadLaws.{r_var}
 use Rattle.pitch_settings.specs.declared.Settings.{Settings}

@@ -1,5 +1,5 @@
 -- The invariant of `put_rows`: i rows are written, and `q` is what the last of them left.
-use Rattle.std.specs.Prelude.{◌≡◌, ◌++◌}
+use Rattle.std.proofs.Common.{◌≡◌, ◌++◌}
 use Rattle.track_paper.specs.Paper.{previous}
 use Rattle.track_paper.specs.RowsLaws.{written}
 use Rattle.pitch_track.proofs.put_rows.Given as goal

@@ -1,6 +1,5 @@
 -- `recording_head::head_known` meets its contract.
-use Rattle.std.proofs.Common.{sym, ap, ◌∙◌}
-use Rattle.std.specs.Result.{is_ok}
+use Rattle.std.proofs.Common.{sym, ap, ◌∙◌, is_ok}
 use Rattle.recording_head.specs.declared.Head.{Head}
 use Rattle.recording_head.specs.Head.{head_known}
 use Rattle.recording_head.specs.HeadLaws.{kind_known}

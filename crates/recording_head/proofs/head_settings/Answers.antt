@@ -1,5 +1,5 @@
 -- `recording_head::head_settings` meets its contract.
-use mathlib.Core.Path.{sym, ap, ◌∙◌}
+use Rattle.std.proofs.Common.{sym, ap, ◌∙◌}
 use Rattle.track_settings.specs.TrackSettings.{fixed_settings}
 use Rattle.recording_head.specs.declared.Head.{Head}
 use Rattle.recording_head.specs.Head.{head_settings}

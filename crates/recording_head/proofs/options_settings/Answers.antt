@@ -1,5 +1,5 @@
 -- `recording_head::options_settings` meets its contract.
-use mir.Syntax.{w32}
+use Rattle.std.proofs.Common.{w32}
 use Rattle.zint.specs.ReadLaws.{r_got}
 use Rattle.recording_head.specs.Head.{options_settings}
 use Rattle.recording_head.proofs.options_settings.Goals as goal

@@ -1,7 +1,6 @@
 -- `recording_head::second_in` meets its contract.
-use Rattle.std.proofs.Common.{sym, ap, ◌∙◌}
+use Rattle.std.proofs.Common.{sym, ap, ◌∙◌, w32}
 use Rattle.std.specs.Result.{result_unwrap_or}
-use mir.Syntax.{w32}
 use Rattle.zint.specs.ReadLaws.{r_got}
 use Rattle.track_settings.specs.declared.SecondThreshold.TheVariants.{Fixed, FromSpeech}
 use Rattle.recording_head.specs.declared.Kind.TheVariants as kinds

@@ -1,10 +1,6 @@
 -- `recording_head::speech_in` meets its contract.
-use mathlib.Core.Path.{refl, ◌∙◌}
-use Prim.Native.Nat.{◌+◌, ◌<◌}
-use native.Mathlib.Omega.{arith}
-use lib.ListN.{get_or}
-use mir.Syntax.{w16, w32}
-use mir.ValLaws.{to_z_pos}
+use Rattle.std.proofs.Common.{refl, ◌∙◌, ◌+◌, ◌<◌, arith, get_or, w16, w32}
+use Rattle.std.proofs.lemmas.Int.{to_z_pos}
 use Rattle.zint.specs.ReadLaws.{r_got, wide_32}
 use Rattle.recording_head.specs.Head.{speech_in}
 use Rattle.recording_head.proofs.speech_in.Goals as goal

@@ -1,7 +1,6 @@
 -- `sheet_bytes::i32_at` meets its contract.
-use Rattle.std.proofs.Common.{◌∙◌, ℕ, pos, ap, rules}
+use Rattle.std.proofs.Common.{◌∙◌, ℕ, pos, ap, rules, w32}
 use Rattle.std.proofs.lemmas.Int.{to_z-of_z}
-use mir.Syntax.{w32}
 use Rattle.zint.specs.Wrap.{wrap}
 use Rattle.sheet_bytes.specs.Bytes.{signed_at}
 use Rattle.sheet_bytes.specs.BytesLaws.{signed_is}

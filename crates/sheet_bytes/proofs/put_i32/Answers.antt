@@ -1,9 +1,7 @@
 -- `sheet_bytes::put_i32` meets its contract.
-use Rattle.std.proofs.Common.{◌∙◌, ℕ, ap}
+use Rattle.std.proofs.Common.{◌∙◌, ℕ, ap, w32, of_z}
 use Rattle.std.proofs.lemmas.Int.{to_z-of_z}
 use Rattle.std.proofs.lemmas.List.Edits.{sets}
-use mir.Syntax.{w32}
-use mir.Val.{of_z}
 use Rattle.sheet_bytes.specs.Bytes.{low_bytes, signed}
 use Rattle.sheet_bytes.specs.BytesLaws.{word_is}
 use Rattle.sheet_bytes.proofs.put_i32.Goals as goal

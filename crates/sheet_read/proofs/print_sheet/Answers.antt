@@ -1,7 +1,6 @@
 -- `sheet_read::print_sheet` meets its contract: what is written first is the input's text, whatever follows the bytes that were looked at.
-use Rattle.std.proofs.Common.{◌≡◌, ltb, ℕ, zero, suc, ◌+◌, ◌<◌, ◌++◌, List, [], length, take, ℤ, Option, Some, IfSome, sym, ap, ◌∙◌, subst, length-append, arith}
+use Rattle.std.proofs.Common.{◌≡◌, ltb, ℕ, zero, suc, ◌+◌, ◌<◌, ◌++◌, List, [], length, take, ℤ, Option, Some, IfSome, sym, ap, ◌∙◌, subst, length-append, arith, lt-ltb}
 use Rattle.std.specs.Io.KnownBytes.{Appends, IsAtEnd}
-use borrow.Author.Tests.{lt-ltb}
 use Rattle.std.proofs.lemmas.Result.{on_ok_weaker}
 use Rattle.lists.specs.PushLaws.{take_overwritten}
 use Rattle.recording_io.specs.KnownLaws.{known_bytes}

@@ -1,9 +1,6 @@
 -- `sheet_rows::row_holds` meets its contract: the rows are compared number for number.
-use Rattle.std.specs.Prelude.{◌≡◌, refl, ◌&&◌, ℤ, Option, Some, None}
-use Rattle.std.specs.Int.{w32}
-use Rattle.std.specs.Ordering.{int_eq}
+use Rattle.std.proofs.Common.{rules, sym, ap, ◌∙◌, SFits, ◌≡◌, refl, ◌&&◌, ℤ, Option, Some, None, w32, int_eq}
 use Rattle.std.specs.Option.{option_eq}
-use Rattle.std.proofs.Common.{rules, sym, ap, ◌∙◌, SFits}
 use Rattle.std.proofs.lemmas.Bool.Decides.{same_from_decides, Decides-int_eq}
 use Rattle.zint.specs.Equal.{eq_z}
 use Rattle.zint.specs.EqualLaws.{eq_z_yes, eq_z_true}

@@ -1,7 +1,5 @@
 -- `sheet_rows::row_of` meets its contract.
-use Rattle.std.proofs.Common.{◌≡◌, refl, true, false, sym, ap, ap₂, ◌∙◌, arith, SFits, to_z, of_z}
-use Rattle.std.specs.Prelude.{ℤ, pos, ◌≤ℤ◌, Some}
-use Rattle.std.specs.Int.{w32}
+use Rattle.std.proofs.Common.{◌≡◌, refl, true, false, sym, ap, ap₂, ◌∙◌, arith, SFits, to_z, of_z, ℤ, pos, ◌≤ℤ◌, Some, w32}
 use Rattle.std.proofs.lemmas.Bool.{false≢true, false_from_ne_true}
 use Rattle.std.proofs.lemmas.Int.{ints}
 use Rattle.zint.specs.ReadLaws.{r_var}

@@ -1,10 +1,5 @@
 -- `sheet_sections::put_numbers` meets its contract.
-use mathlib.Core.Path.{◌≡◌, refl, ◌∙◌}
-use native.Mathlib.Omega.{arith}
-use lib.ListN.{get_or}
-use lib.IntN.{pos}
-use mir.Syntax.{w32}
-use mir.Val.{to_z, of_z}
+use Rattle.std.proofs.Common.{◌≡◌, refl, ◌∙◌, arith, get_or, pos, w32, to_z, of_z}
 use Rattle.zint.specs.RuleLaws.{zneeds}
 use Rattle.lists.specs.PutLaws.{put_none}
 use Rattle.sheet_sections.specs.Sheet.{concat}

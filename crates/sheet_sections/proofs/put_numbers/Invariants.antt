@@ -1,7 +1,5 @@
 -- The invariants of `put_numbers`.
-use mathlib.Core.Path.{◌≡◌}
-use Prim.Native.Nat.{◌+◌, ◌*◌, ◌≤◌}
-use lib.ListN.{length}
+use Rattle.std.proofs.Common.{◌≡◌, ◌+◌, ◌*◌, ◌≤◌, length}
 use Rattle.lists.specs.Put.{Put}
 use Rattle.sheet_sections.specs.Sheet.{setting_bytes}
 use Rattle.sheet_sections.specs.SheetLaws.{signed_first}

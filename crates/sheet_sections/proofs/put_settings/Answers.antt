@@ -1,7 +1,5 @@
 -- `sheet_sections::put_settings` meets its contract.
-use mathlib.Core.Path.{refl, ap}
-use mathlib.Core.List.{List, map}
-use lib.IntN.{ℤ}
+use Rattle.std.proofs.Common.{refl, ap, List, map, ℤ}
 use Rattle.lists.specs.PutLaws.{put_then, put_as}
 use Rattle.sheet_bytes.specs.Bytes.{signed}
 use Rattle.sheet_sections.specs.Sheet.{setting_numbers, concat, section}

@@ -1,8 +1,5 @@
 -- `sheet_sections::setting_numbers` meets its contract.
-use mathlib.Core.Path.{◌≡◌}
-use native.Mathlib.Omega.{arith}
-use mir.Syntax.{w32}
-use mir.Val.{to_z, of_z}
+use Rattle.std.proofs.Common.{◌≡◌, arith, w32, to_z, of_z}
 use Rattle.zint.specs.ReadLaws.{r_nat}
 use Rattle.zint.specs.RuleLaws.{zneeds}
 use Rattle.pitch_settings.specs.SettingsLaws.{held_settings}

@@ -1,6 +1,6 @@
 -- `sheet_sections::voiced_rows` meets its contract: the chain picks out the rows with an entry among the pairs.
-use Rattle.std.proofs.Common.{◌≡◌, rules, tests, ◌∙◌, arith, ℕ, Bool, length}
-use Rattle.std.specs.List.{range_with_len, filter}
+use Rattle.std.proofs.Common.{◌≡◌, rules, tests, ◌∙◌, arith, ℕ, Bool, length, filter}
+use Rattle.std.specs.List.{range_with_len}
 use Rattle.std.proofs.lemmas.Iterator.{YieldsList-from_range}
 use Rattle.std.proofs.lemmas.Iterator.Consumers.{count_from_yields_List, YieldsList-from_filter}
 use Rattle.pitch_table.specs.Row.{row_at}

@@ -1,11 +1,5 @@
 -- `sheet_text::put_head` meets its contract.
-use mathlib.Core.Path.{◌≡◌, ap}
-use mathlib.Core.List.{List, [], ◌∷◌}
-use Prim.Native.Nat.{◌-◌, ◌≤◌}
-use native.Mathlib.Omega.{arith}
-use lib.IntN.{ℤ}
-use lib.ListN.{length, take, drop}
-use mir.Syntax.{w32}
+use Rattle.std.proofs.Common.{◌≡◌, ap, List, [], ◌∷◌, ◌-◌, ◌≤◌, arith, ℤ, length, take, drop, w32}
 use Rattle.zint.specs.ReadLaws.{r_nat}
 use Rattle.pitch_settings.specs.declared.Settings.{Settings}
 use Rattle.pitch_settings.specs.Settings.{held_no}

@@ -1,5 +1,5 @@
 -- `sheet_text::put_report` meets its contract.
-use native.Mathlib.Omega.{arith}
+use Rattle.std.proofs.Common.{arith}
 use Rattle.pitch_settings.specs.SettingsLaws.{held_settings}
 use Rattle.pitch_text.specs.TextLaws.{put_then}
 use Rattle.sheet_text.specs.Program.{sheet_report}

@@ -1,11 +1,6 @@
 -- `sheet_text::sheet_text` meets its contract.
-use mathlib.Core.Path.{refl, sym, ap, ◌∙◌}
-use mathlib.Core.List.{List, ◌++◌}
-use Prim.Native.Nat.{ℕ, ◌*◌, ◌≤◌}
-use lib.ListN.{length}
-use lib.Seq.{length-take-le}
+use Rattle.std.proofs.Common.{refl, sym, ap, ◌∙◌, List, ◌++◌, ℕ, ◌*◌, ◌≤◌, length, length-take-le, arith}
 use Rattle.pitch_table.specs.Row.{row_size, most_frames}
-use native.Mathlib.Omega.{arith}
 use Rattle.pitch_text.specs.Text.{refused_text}
 use Rattle.pitch_text.specs.TextLaws.{put_as, put_count, put_over, rows_taken}
 use Rattle.sheet_text.specs.Program.{sheet_text_call}

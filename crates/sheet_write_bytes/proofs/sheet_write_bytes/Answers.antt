@@ -1,11 +1,5 @@
 -- `sheet_write_bytes::sheet_write_bytes` meets its contract.
-use mathlib.Core.Path.{◌≡◌, sym, ap, ap₂, ◌∙◌}
-use mathlib.Core.List.{List, ◌++◌}
-use Prim.Native.Nat.{ℕ, ◌≤◌}
-use native.Mathlib.Omega.{arith}
-use lib.IntN.{ℤ}
-use lib.ListN.{length, take}
-use lib.Seq.{length-take-le}
+use Rattle.std.proofs.Common.{◌≡◌, sym, ap, ap₂, ◌∙◌, List, ◌++◌, ℕ, ◌≤◌, arith, ℤ, length, take, length-take-le}
 use Rattle.lists.specs.Fill.{overwritten}
 use Rattle.recording_head.specs.declared.Head.{Head}
 use Rattle.track_settings.specs.declared.TrackSettings.{TrackSettings}

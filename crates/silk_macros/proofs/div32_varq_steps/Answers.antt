@@ -1,11 +1,6 @@
 -- `silk_macros::div32_varq_steps` meets its contract. Each local is read as what the definition has for it.
-use mathlib.Core.Path.{◌≡◌}
-use Prim.Native.Nat.{ℕ}
-use native.Mathlib.Omega.{arith}
-use lib.IntN.{ℤ, pos, negsuc, ◌+ℤ◌, ◌-ℤ◌}
-use lib.Signed.{quot_z, ◌<ℤ◌, ◌≤ℤ◌}
-use mir.Syntax.{w32}
-use mir.Val.{SFits, to_z, of_z}
+use Rattle.std.proofs.Common.{◌≡◌, ℕ, arith, ℤ, pos, negsuc, ◌+ℤ◌, ◌-ℤ◌, ◌<ℤ◌, ◌≤ℤ◌, w32, SFits, to_z, of_z}
+use Rattle.std.specs.Int.Signed.{quot_z}
 use Rattle.zint.specs.DiffLaws.{v, n, ◌⊕◌, ◌⊖◌, sfits_by, lt_by, of_lt, of_le, zarith}
 use Rattle.zint.specs.ReadLaws.{Reads, r_var, r_lit, r_call1, r_call2, r_call3, r_add, r_sub, r_shr, r_holds, f_add, f_sub}
 use Rattle.zint.specs.RuleLaws.{zneeds}

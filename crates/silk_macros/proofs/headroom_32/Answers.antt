@@ -1,10 +1,6 @@
 -- `silk_macros::headroom_32` meets its contract.
-use mathlib.Core.Path.{ap, ◌∙◌}
-use Prim.Native.Nat.{ℕ, ◌<◌, ◌^◌}
-use native.Mathlib.Omega.{arith}
-use lib.Count.{count_leading_zeros, leading_le}
-use lib.IntN.{pos, nat_abs, ◌-ℤ◌}
-use mir.Syntax.{w32}
+use Rattle.std.proofs.Common.{ap, ◌∙◌, ℕ, ◌<◌, ◌^◌, arith, pos, nat_abs, ◌-ℤ◌, w32}
+use Rattle.std.specs.Int.Count.{count_leading_zeros, leading_le}
 use Rattle.zint.specs.ReadLaws.{r_var, r_nat, r_lit, r_sub, f_sub}
 use Rattle.silk_macros.specs.Macros.{headroom}
 use Rattle.silk_macros.specs.MacroLaws.{less_fits}

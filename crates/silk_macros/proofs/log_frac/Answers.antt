@@ -1,5 +1,5 @@
 -- `silk_macros::log_frac` meets its contract.
-use mir.Syntax.{w32}
+use Rattle.std.proofs.Common.{w32}
 use Rattle.zint.specs.DiffLaws.{v, n, ◌⊖◌, sfits_by, zarith}
 use Rattle.zint.specs.ReadLaws.{fit_as, via3}
 use Rattle.zint.specs.RuleLaws.{zneeds}

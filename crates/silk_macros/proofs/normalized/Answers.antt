@@ -1,11 +1,6 @@
 -- `silk_macros::normalized` meets its contract.
-use mathlib.Core.Path.{◌≡◌, ap}
-use Prim.Native.Nat.{ℕ, ◌^◌}
-use lib.IntN.{pos, nat_abs, ◌*ℤ◌}
-use lib.Signed.{lt_z}
-use mathlib.Core.Bool.{false}
-use mir.Syntax.{w32}
-use mir.Val.{of_z}
+use Rattle.std.proofs.Common.{◌≡◌, ap, ℕ, ◌^◌, pos, nat_abs, ◌*ℤ◌, false, w32, of_z}
+use Rattle.std.specs.Int.Signed.{lt_z}
 use Rattle.zint.specs.BoundLaws.{abs_ud}
 use Rattle.zint.specs.TestLaws.{lt_false, sel_no}
 use Rattle.zint.specs.DiffLaws.{nonneg_dn, zarith}

@@ -1,10 +1,9 @@
 -- `silk_macros::refined` meets its contract.
+use Rattle.std.proofs.Common.{w32, ℤ, ◌-ℤ◌}
 use Rattle.silk_macros.specs.Macros.{smulwb, smmul, smlawb}
 use Rattle.silk_macros.specs.Divide.{refine}
 use Rattle.zint.specs.ReadLaws.{r_var, r_call2, r_call3, r_shl}
 use Rattle.zint.specs.Wrap.{wrap}
-use mir.Syntax.{w32}
-use lib.IntN.{ℤ, ◌-ℤ◌}
 use Rattle.silk_macros.proofs.refined.Goals as goal
 
 pub returns : goal.returns

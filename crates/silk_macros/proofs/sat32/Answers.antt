@@ -1,6 +1,6 @@
 -- `silk_macros::sat32` meets its contract: std's `clamp`, in the words of `sat`.
-use Rattle.std.proofs.Common.{ℤ, pos, negsuc, ap, ◌∙◌}
-use Rattle.std.specs.Int.{w32, w64, int_min, int_max}
+use Rattle.std.proofs.Common.{ℤ, pos, negsuc, ap, ◌∙◌, w32, w64}
+use Rattle.std.specs.Int.{int_min, int_max}
 use Rattle.zint.specs.Clamp.{sat}
 use Rattle.zint.specs.ClampLaws.{clamp_of_std, sat_fits}
 use Rattle.zint.specs.ReadLaws.{r_var, r_got, r_cast}

@@ -1,5 +1,5 @@
 -- `silk_macros::silk_add_sat16` meets its contract.
-use mir.Syntax.{w16, w32}
+use Rattle.std.proofs.Common.{w16, w32}
 use Rattle.zint.specs.BoundLaws.{add_32}
 use Rattle.zint.specs.Clamp.{sat}
 use Rattle.zint.specs.ClampLaws.{sat_fits}

@@ -1,7 +1,6 @@
 -- `silk_macros::silk_clz32` meets its contract.
-use Rattle.std.proofs.Common.{ap, ◌∙◌}
+use Rattle.std.proofs.Common.{ap, ◌∙◌, w32}
 use Rattle.std.specs.Int.Count.{count_leading_zeros}
-use Rattle.std.specs.Int.{w32}
 use Rattle.zint.specs.WrapLaws.{read_mod}
 use Rattle.silk_macros.specs.Macros.{clz32}
 use Rattle.silk_macros.proofs.silk_clz32.Goals as goal

@@ -1,9 +1,5 @@
 -- `silk_macros::silk_clz_frac` meets its contract.
-use mathlib.Core.Path.{◌≡◌, ap, ◌∙◌}
-use Prim.Native.Nat.{ℕ, ◌-◌, ◌%◌, ◌^◌}
-use native.Mathlib.Omega.{arith}
-use lib.IntN.{ℤ, pos}
-use mir.Syntax.{w32}
+use Rattle.std.proofs.Common.{◌≡◌, ap, ◌∙◌, ℕ, ◌-◌, ◌%◌, ◌^◌, arith, ℤ, pos, w32}
 use Rattle.zint.specs.ReadLaws.{r_var, r_nat}
 use Rattle.zint.specs.Rotate.{rotate_right}
 use Rattle.zint.specs.RuleLaws.{zneeds}

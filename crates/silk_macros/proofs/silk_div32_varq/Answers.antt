@@ -1,7 +1,5 @@
 -- `silk_macros::silk_div32_varq` meets its contract.
-use Rattle.std.proofs.Common.{◌≡◌, sym, ap, ◌∙◌, Bool, cond, [], ◌∷◌, ℤ, pos, ◌≤ℤ◌, ◌<ℤ◌, Option, Some, None}
-use Rattle.std.specs.Int.{w32}
-use mir.Val.{to_z, of_z}
+use Rattle.std.proofs.Common.{◌≡◌, sym, ap, ◌∙◌, Bool, cond, [], ◌∷◌, ℤ, pos, ◌≤ℤ◌, ◌<ℤ◌, Option, Some, None, w32, to_z, of_z}
 use Rattle.answers.specs.Answer.{answer_numbers}
 use Rattle.zint.specs.EqualLaws.{eq_z_yes, eq_z_no}
 use Rattle.zint.specs.ReadLaws.{r_var, r_call3, r_holds}

@@ -1,13 +1,7 @@
 -- `silk_macros::silk_lin2log` meets its contract.
-use mathlib.Core.Bool.{false}
-use mathlib.Core.Path.{◌≡◌, ap, ap₂, ◌∙◌}
-use Prim.Native.Nat.{ℕ, ◌-◌, ◌*◌, ◌≤◌, ◌^◌}
-use native.Mathlib.Omega.{arith}
-use lib.Count.{count_leading_zeros}
-use lib.IntN.{ℤ, pos, nat_abs, ◌*ℤ◌}
-use lib.Signed.{le_z, ◌<ℤ◌, ◌≤ℤ◌}
-use mir.Syntax.{w32}
-use mir.Val.{SFits, to_z, of_z}
+use Rattle.std.proofs.Common.{false, ◌≡◌, ap, ap₂, ◌∙◌, ℕ, ◌-◌, ◌*◌, ◌≤◌, ◌^◌, arith, ℤ, pos, nat_abs, ◌*ℤ◌, ◌<ℤ◌, ◌≤ℤ◌, w32, SFits, to_z, of_z}
+use Rattle.std.specs.Int.Count.{count_leading_zeros}
+use Rattle.std.specs.Int.Signed.{le_z}
 use Rattle.zint.specs.BoundLaws.{abs_ud, fits_abs}
 use Rattle.zint.specs.DiffLaws.{le_of, lt_of, zarith}
 use Rattle.zint.specs.ReadLaws.{Reads, r_var, r_lit, r_nat, r_as, r_call1, r_add, f_add, r_holds, fit_as, t_le}

@@ -1,6 +1,6 @@
 -- `silk_macros::silk_lshift` meets its contract.
-use Rattle.std.proofs.Common.{ℤ, ◌%◌, ap, ◌∙◌}
-use Rattle.std.specs.Int.{w32, int_shl}
+use Rattle.std.proofs.Common.{ℤ, ◌%◌, ap, ◌∙◌, w32}
+use Rattle.std.specs.Int.{int_shl}
 use Rattle.zint.specs.ReadLaws.{r_var, r_got}
 use Rattle.zint.specs.WrapLaws.{shl_of_std}
 use Rattle.silk_macros.proofs.silk_lshift.Goals as goal

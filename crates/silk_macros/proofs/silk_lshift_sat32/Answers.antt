@@ -1,9 +1,5 @@
 -- `silk_macros::silk_lshift_sat32` meets its contract: the amount, widened, is its size.
-use mathlib.Core.Path.{◌≡◌, ap}
-use Prim.Native.Nat.{ℕ, ◌^◌}
-use lib.IntN.{pos, nat_abs, ◌*ℤ◌}
-use mir.Syntax.{w32, w64}
-use mir.Val.{to_z, of_z}
+use Rattle.std.proofs.Common.{◌≡◌, ap, ℕ, ◌^◌, pos, nat_abs, ◌*ℤ◌, w32, w64, to_z, of_z}
 use Rattle.zint.specs.BoundLaws.{abs_ud}
 use Rattle.zint.specs.Clamp.{sat}
 use Rattle.zint.specs.DiffLaws.{nonneg_dn, zarith}

@@ -1,13 +1,8 @@
 -- `silk_macros::silk_rshift_round` meets its contract, branch by branch.
-use mathlib.Core.Bool.{false}
-use mathlib.Core.Path.{◌≡◌, refl, ap, ◌∙◌}
-use Prim.Native.Nat.{ℕ, ◌-◌, ◌%◌, ◌^◌, ◌<◌}
-use lib.Dec.{lit<, lit≤}
-use lib.IntN.{ℤ, pos, nat_abs, ◌-ℤ◌, ◌*ℤ◌}
-use lib.Signed.{shr_z, le_z, ◌<ℤ◌}
-use mir.Syntax.{w32}
-use mir.Val.{to_z, of_z}
-use mir.ValLaws.{to_z-of_z}
+use Rattle.std.proofs.Common.{false, ◌≡◌, refl, ap, ◌∙◌, ℕ, ◌-◌, ◌%◌, ◌^◌, ◌<◌, lit<, lit≤, ℤ, pos, nat_abs, ◌-ℤ◌, ◌*ℤ◌, ◌<ℤ◌, w32, to_z, of_z}
+use Rattle.std.specs.Int.{int_shl, int_wrapping_neg}
+use Rattle.std.specs.Int.Signed.{shr_z, le_z}
+use Rattle.std.proofs.lemmas.Int.{to_z-of_z}
 use Rattle.zint.specs.BoundLaws.{abs_ud}
 use Rattle.zint.specs.DiffLaws.{v, n, ◌⊖◌, le_of, sfits_by, positive_dn, zarith}
 use Rattle.zint.specs.ReadLaws.{Reads, r_var, r_lit, r_as, r_add, r_shr, r_mask, r_got, f_add, fit_as, t_le}
@@ -15,7 +10,6 @@ use Rattle.zint.specs.ShiftLaws.{amount, pred_abs}
 use Rattle.zint.specs.TestLaws.{le_false, sel_yes, sel_no}
 use Rattle.zint.specs.RuleLaws.{zneeds}
 use Rattle.zint.specs.Wrap.{wrap, mod_z}
-use Rattle.std.specs.Int.{int_shl, int_wrapping_neg}
 use Rattle.zint.specs.WrapLaws.{mod_z_lt, mod_z_is, mod_z_cong, mod_part, cong_trans, cong_sym, cong_part, wrap_cong, read_mod, shl_of_std, neg_of_std}
 use Rattle.silk_macros.specs.Macros.{rshift_round}
 use Rattle.silk_macros.specs.MacroLaws.{round_fits}

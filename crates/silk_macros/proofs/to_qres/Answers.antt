@@ -1,11 +1,6 @@
 -- `silk_macros::to_qres` meets its contract.
-use mathlib.Core.Bool.{true, false}
-use mathlib.Core.Path.{◌≡◌, refl, ap, ap₂, ◌∙◌}
-use Prim.Native.Nat.{ℕ, ◌^◌}
-use lib.IntN.{ℤ, pos, nat_abs, ◌-ℤ◌}
-use lib.Signed.{lt_z, shr_z, ◌<ℤ◌, ◌≤ℤ◌}
-use mir.Syntax.{w32}
-use mir.Val.{SFits, to_z, of_z}
+use Rattle.std.proofs.Common.{true, false, ◌≡◌, refl, ap, ap₂, ◌∙◌, ℕ, ◌^◌, ℤ, pos, nat_abs, ◌-ℤ◌, ◌<ℤ◌, ◌≤ℤ◌, w32, SFits, to_z, of_z}
+use Rattle.std.specs.Int.Signed.{lt_z, shr_z}
 use Rattle.zint.specs.BoundLaws.{abs_ud}
 use Rattle.zint.specs.TestLaws.{lt_true, lt_false, sel_yes, sel_no, ztests}
 use Rattle.zint.specs.DiffLaws.{v, n, ◌⊖◌, sfits_by, le_of, lt_of, nonneg_dn, negative_up}

@@ -1,12 +1,5 @@
 -- `silk_pitch_analysis::analyse` meets its contract.
-use mathlib.Core.Path.{◌≡◌, sym, ap, ◌∙◌, subst}
-use mathlib.Core.List.{List}
-use Prim.Native.Nat.{ℕ, ◌≤◌}
-use native.Mathlib.Omega.{arith}
-use lib.IntN.{ℤ}
-use lib.ListN.{length, take}
-use lib.Seq.{length-take-le}
-use Rattle.std.proofs.Common.{take_all}
+use Rattle.std.proofs.Common.{take_all, ◌≡◌, sym, ap, ◌∙◌, subst, List, ℕ, ◌≤◌, arith, ℤ, length, take, length-take-le}
 use Rattle.lists.specs.Fill.{filled}
 use Rattle.pitch_settings.specs.declared.Settings.{Settings}
 use Rattle.pitch_settings.specs.Settings.{frame_length}

@@ -1,6 +1,5 @@
 -- `silk_pitch_analysis::frame_row` meets its contract.
-use Rattle.std.proofs.Common.{◌≡◌, sym, ap, ◌∙◌, rules}
-use Rattle.std.specs.Prelude.{Ok, length, take}
+use Rattle.std.proofs.Common.{◌≡◌, sym, ap, ◌∙◌, rules, Ok, length, take}
 use Rattle.zint.specs.ReadLaws.{r_var}
 use Rattle.pitch_settings.specs.Settings.{settings_no, frame_length}
 use Rattle.refusals.specs.Refusals.{number_told}

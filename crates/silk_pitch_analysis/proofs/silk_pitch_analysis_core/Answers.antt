@@ -1,6 +1,5 @@
 -- `silk_pitch_analysis::silk_pitch_analysis_core` meets its contract.
-use Rattle.std.proofs.Common.{◌≡◌, sym, ap, ◌∙◌, rules}
-use Rattle.std.specs.Prelude.{ℤ, List, Ok, length, take}
+use Rattle.std.proofs.Common.{◌≡◌, sym, ap, ◌∙◌, rules, ℤ, List, Ok, length, take}
 use Rattle.zint.specs.ReadLaws.{r_var}
 use Rattle.pitch_settings.specs.declared.analysed.Analysed.{Analysed}
 use Rattle.pitch_settings.specs.Settings.{settings_no, frame_length}

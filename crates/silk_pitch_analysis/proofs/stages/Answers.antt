@@ -1,14 +1,6 @@
 -- `silk_pitch_analysis::stages` meets its contract.
-use mathlib.Core.Path.{◌≡◌, sym, ap, ◌∙◌, subst}
-use mathlib.Core.List.{List}
-use Prim.Native.Nat.{◌<◌}
-use native.Mathlib.Omega.{arith}
-use lib.IntN.{ℤ}
-use lib.ListN.{take}
-use Rattle.std.specs.Prelude.{Result, Ok, Err}
+use Rattle.std.proofs.Common.{◌≡◌, sym, ap, ◌∙◌, subst, List, ◌<◌, arith, ℤ, take, Result, Ok, Err, w32, SFits, to_z, of_z}
 use Rattle.std.proofs.lemmas.Result.{err_from_is_err_and}
-use mir.Syntax.{w32}
-use mir.Val.{SFits, to_z, of_z}
 use Rattle.zint.specs.ReadLaws.{r_var}
 use Rattle.zint.specs.RuleLaws.{zneeds}
 use Rattle.pitch_settings.specs.declared.Settings.{Settings}

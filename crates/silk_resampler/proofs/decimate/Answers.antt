@@ -1,9 +1,5 @@
 -- `silk_resampler::decimate` meets its contract: `out` is filled below 2 m.
-use Prim.Native.Nat.{ℕ, ◌≤◌, ◌+◌, ◌*◌}
-use mathlib.Core.Path.{◌≡◌, refl, ap, ◌∙◌}
-use native.Mathlib.Omega.{arith}
-use lib.ListN.{length-set}
-use mir.Syntax.{w16}
+use Rattle.std.proofs.Common.{ℕ, ◌≤◌, ◌+◌, ◌*◌, ◌≡◌, refl, ap, ◌∙◌, arith, length-set, w16}
 use Rattle.zint.specs.ReadLaws.{r_got}
 use Rattle.lists.specs.Fill.{filled}
 use Rattle.lists.specs.FillLaws.{filled_none, filled_turn}

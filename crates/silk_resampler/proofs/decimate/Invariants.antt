@@ -1,7 +1,5 @@
 -- The invariants of `decimate`.
-use Prim.Native.Nat.{◌≤◌, ◌*◌}
-use mathlib.Core.Path.{◌≡◌}
-use lib.ListN.{length}
+use Rattle.std.proofs.Common.{◌≤◌, ◌*◌, ◌≡◌, length}
 use Rattle.lists.specs.Fill.{filled}
 use Rattle.lists.specs.Signal.{sample}
 use Rattle.silk_resampler.specs.Down23.{decimated}

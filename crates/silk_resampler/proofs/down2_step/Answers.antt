@@ -1,7 +1,6 @@
 -- `silk_resampler::down2_step` meets its contract.
-use mathlib.Core.Path.{◌∙◌}
-use lib.IntN.{ℤ, ◌+ℤ◌, ◌-ℤ◌, +ℤ_assoc}
-use mir.Syntax.{w16, w32}
+use Rattle.std.proofs.Common.{◌∙◌, ℤ, ◌+ℤ◌, ◌-ℤ◌, w16, w32}
+use Rattle.std.proofs.Math.IntN.{+ℤ_assoc}
 use Rattle.zint.specs.Clamp.{sat}
 use Rattle.zint.specs.ClampLaws.{sat_fits}
 use Rattle.zint.specs.ReadLaws.{r_var, r_lit, r_neg, r_got, r_call1, r_call2, r_call3, r_cast, r_shl, wide_32, f_cast}

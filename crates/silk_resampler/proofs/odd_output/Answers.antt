@@ -1,5 +1,5 @@
 -- `silk_resampler::odd_output` meets its contract.
-use mir.Syntax.{w16}
+use Rattle.std.proofs.Common.{w16}
 use Rattle.zint.specs.ReadLaws.{r_got}
 use Rattle.silk_resampler.specs.Down23.{odd_out}
 use Rattle.silk_resampler.proofs.odd_output.Goals as goal

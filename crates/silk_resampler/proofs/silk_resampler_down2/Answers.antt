@@ -1,11 +1,5 @@
 -- `silk_resampler::silk_resampler_down2` meets its contract: the states are those of the definition, and the list is filled below k.
-use Prim.Native.Nat.{ℕ, ◌≤◌, ◌+◌, ◌/◌}
-use mathlib.Core.Path.{◌≡◌, refl, ap, ap₂, ◌∙◌}
-use mathlib.Core.List.{◌∷◌}
-use native.Mathlib.Omega.{arith}
-use lib.IntN.{ℤ}
-use lib.ListN.{drop, length-set}
-use mir.Syntax.{w16}
+use Rattle.std.proofs.Common.{ℕ, ◌≤◌, ◌+◌, ◌/◌, ◌≡◌, refl, ap, ap₂, ◌∙◌, ◌∷◌, arith, ℤ, drop, length-set, w16}
 use Rattle.zint.specs.ReadLaws.{r_elem}
 use Rattle.zint.specs.RuleLaws.{zneeds}
 use Rattle.lists.specs.Fill.{filled}

@@ -1,12 +1,7 @@
 -- `silk_resampler::silk_resampler_down2_3` meets its contract.
-use mathlib.Core.Path.{◌≡◌, ap, ◌∙◌}
-use mathlib.Core.List.{List, ◌++◌}
-use Prim.Native.Nat.{ℕ, ◌+◌, ◌-◌, ◌≤◌, ◌<◌}
-use native.Mathlib.Omega.{arith}
-use borrow.Author.Rules.{rules}
+use Rattle.std.proofs.Common.{◌≡◌, ap, ◌∙◌, List, ◌++◌, ℕ, ◌+◌, ◌-◌, ◌≤◌, ◌<◌, arith, rules, ℤ, pos, negsuc, length, take, drop, replicate}
+use Rattle.std.proofs.Math.ListN.{length-replicate}
 use borrow.Rule.Slice.PartMut.{put_mid}
-use lib.IntN.{ℤ, pos, negsuc}
-use lib.ListN.{length, take, drop, replicate, length-replicate}
 use Rattle.lists.specs.Fill.{filled}
 use Rattle.lists.specs.FillLaws.{filled_copied}
 use Rattle.lists.specs.Signal.{sample}

@@ -1,7 +1,5 @@
 -- The invariants of `silk_resampler_private_ar2`.
-use Prim.Native.Nat.{◌≤◌}
-use mathlib.Core.Path.{◌≡◌}
-use lib.ListN.{length}
+use Rattle.std.proofs.Common.{◌≤◌, ◌≡◌, length}
 use Rattle.lists.specs.Fill.{filled}
 use Rattle.lists.specs.Signal.{sample}
 use Rattle.silk_resampler.specs.Down23.{ar2_states, filtered, states_of}

@@ -1,6 +1,6 @@
 -- `silk_resampler::source_filter` meets its contract: its four numbers are those of the definition, and any two proofs of an order are equal.
 use Rattle.std.proofs.Common.{◌≡◌, ◌<◌, ◌^◌, lit<}
-use native.Mathlib.Bridge.{le_prop}
+use Rattle.std.proofs.Math.Bridge.{le_prop}
 use Rattle.silk_resampler.specs.declared.filter.Filter.{Filter}
 use Rattle.silk_resampler.specs.Down23.{source_filter}
 use Rattle.silk_resampler.proofs.source_filter.Goals as goal

@@ -1,9 +1,5 @@
 -- `silk_resampler::weighted_output` meets its contract: a chain of calls.
-use mathlib.Core.Path.{ap, ◌∙◌}
-use native.Mathlib.Omega.{arith}
-use lib.IntN.{pos}
-use mir.Syntax.{w16, w32}
-use mir.Val.{SFits}
+use Rattle.std.proofs.Common.{ap, ◌∙◌, arith, pos, w16, w32, SFits}
 use Rattle.zint.specs.Clamp.{sat}
 use Rattle.zint.specs.ClampLaws.{sat_fits}
 use Rattle.zint.specs.ReadLaws.{r_var, r_elem, r_got, r_call1, r_call2, r_call3, r_cast, f_cast, wide_32}

@@ -1,8 +1,5 @@
 -- `silk_sigproc::energy_from` meets its contract.
-use mathlib.Core.Path.{ap, ◌∙◌}
-use mathlib.Core.List.{List}
-use lib.IntN.{ℤ}
-use mir.Syntax.{w32}
+use Rattle.std.proofs.Common.{ap, ◌∙◌, List, ℤ, w32}
 use Rattle.zint.specs.Wrap.{wrap}
 use Rattle.zint.specs.ReadLaws.{r_got}
 use Rattle.lists.specs.FillLaws.{tail_part}

@@ -1,6 +1,5 @@
 -- `silk_sigproc::mac16_16` meets its contract.
-use lib.IntN.{ℤ, ◌+ℤ◌}
-use mir.Syntax.{w32}
+use Rattle.std.proofs.Common.{ℤ, ◌+ℤ◌, w32}
 use Rattle.zint.specs.BoundLaws.{mul_32}
 use Rattle.zint.specs.ReadLaws.{wide_32, r_var, r_mul, f_mul, r_call2}
 use Rattle.zint.specs.Wrap.{wrap}

@@ -1,12 +1,7 @@
 -- `silk_sigproc::pair_energy` meets its contract: each square is a number from 0 to 2^30.
-use mathlib.Core.Path.{◌≡◌, refl, ap, ap₂, ◌∙◌}
-use Prim.Native.Nat.{◌+◌, ◌^◌, ◌<◌}
-use native.Mathlib.Omega.{arith}
-use lib.IntN.{ℤ, pos, nat_abs, ◌*ℤ◌}
-use lib.Pow.{shr_le, split}
-use lib.Signed.{mag}
-use mir.Syntax.{w16, w32}
-use mir.Val.{SFits, to_z, of_z}
+use Rattle.std.proofs.Common.{◌≡◌, refl, ap, ap₂, ◌∙◌, ◌+◌, ◌^◌, ◌<◌, arith, ℤ, pos, nat_abs, ◌*ℤ◌, w16, w32, SFits, to_z, of_z}
+use Rattle.std.proofs.Math.Pow.{shr_le, split}
+use Rattle.std.specs.Int.Signed.{mag}
 use Rattle.zint.specs.ReadLaws.{r_var, r_call1, as_unsigned}
 use Rattle.silk_sigproc.specs.SumSqr.{sq}
 use Rattle.silk_sigproc.specs.SumSqrLaws.{sq_le, sq_pos}

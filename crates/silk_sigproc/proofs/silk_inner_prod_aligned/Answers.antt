@@ -1,7 +1,5 @@
 -- `silk_sigproc::silk_inner_prod_aligned` meets its contract: a fold over the pairs of two lists adds up their products.
-use Rattle.std.proofs.Common.{rules, sym, ap, ◌∙◌, arith, ◌≡◌, ℕ, zero, suc, ◌≤◌, List, [], ◌∷◌, ℤ, pos, ◌+ℤ◌, ◌*ℤ◌, length, take, get_or, get_or-take, length-take-le, fold}
-use Rattle.std.specs.Int.{w32}
-use Rattle.std.specs.List.{zip}
+use Rattle.std.proofs.Common.{rules, sym, ap, ◌∙◌, arith, ◌≡◌, ℕ, zero, suc, ◌≤◌, List, [], ◌∷◌, ℤ, pos, ◌+ℤ◌, ◌*ℤ◌, length, take, get_or, get_or-take, length-take-le, fold, w32, zip}
 use Rattle.std.proofs.lemmas.Iterator.{YieldsList-from_slice, YieldsList-from_zip}
 use Rattle.std.proofs.lemmas.Iterator.Consumers.{fold_from_yields_List}
 use Rattle.zint.specs.DiffLaws.{v, n, ◌⊕◌, ring}

@@ -1,10 +1,5 @@
 -- `silk_sigproc::silk_pitch_xcorr` meets its contract. The invariant is said of every list that the list at the loop's start fills.
-use Prim.Native.Nat.{ℕ}
-use mathlib.Core.Path.{◌≡◌, ap, ◌∙◌}
-use mathlib.Core.List.{List}
-use native.Mathlib.Omega.{arith}
-use lib.IntN.{ℤ}
-use mir.Syntax.{w32}
+use Rattle.std.proofs.Common.{ℕ, ◌≡◌, ap, ◌∙◌, List, arith, ℤ, w32}
 use Rattle.zint.specs.ReadLaws.{r_got}
 use Rattle.zint.specs.Wrap.{wrap}
 use Rattle.lists.specs.Fill.{filled}

@@ -1,5 +1,5 @@
 -- The invariants of `silk_pitch_xcorr`.
-use mathlib.Core.Path.{◌≡◌}
+use Rattle.std.proofs.Common.{◌≡◌}
 use Rattle.lists.specs.Fill.{filled}
 use Rattle.silk_sigproc.specs.DotLaws.{lag_dot}
 use Rattle.silk_sigproc.proofs.silk_pitch_xcorr.Given as goal

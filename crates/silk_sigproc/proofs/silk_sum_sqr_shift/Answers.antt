@@ -1,12 +1,6 @@
 -- `silk_sigproc::silk_sum_sqr_shift` meets its contract.
-use mathlib.Core.Path.{◌≡◌, sym, ap, ap₂, ◌∙◌, subst}
-use mathlib.Core.List.{List}
-use Prim.Native.Nat.{ℕ, ◌+◌, ◌-◌, ◌*◌, ◌^◌, ◌≤◌, ◌<◌}
-use native.Mathlib.Omega.{arith}
-use lib.Count.{count_leading_zeros}
-use lib.IntN.{ℤ}
-use lib.ListN.{length, take}
-use lib.Seq.{length-take-le}
+use Rattle.std.proofs.Common.{◌≡◌, sym, ap, ap₂, ◌∙◌, subst, List, ℕ, ◌+◌, ◌-◌, ◌*◌, ◌^◌, ◌≤◌, ◌<◌, arith, ℤ, length, take, length-take-le}
+use Rattle.std.specs.Int.Count.{count_leading_zeros}
 use Rattle.silk_sigproc.specs.SumSqr.{pairs, pair_sum, excess, first_shift, first_sum, sqr_shift, sqr_energy}
 use Rattle.silk_sigproc.specs.SumSqrLaws.{zeros_le, first_small, sqr_shift_lt, energy_small}
 use Rattle.silk_sigproc.proofs.silk_sum_sqr_shift.Goals as goal

@@ -1,7 +1,5 @@
 -- `silk_sigproc::slide` meets its contract.
-use mathlib.Core.Path.{◌∙◌}
-use lib.IntN.{ℤ, ◌+ℤ◌, ◌-ℤ◌, ◌*ℤ◌}
-use mir.Syntax.{w32}
+use Rattle.std.proofs.Common.{◌∙◌, ℤ, ◌+ℤ◌, ◌-ℤ◌, ◌*ℤ◌, w32}
 use Rattle.zint.specs.Wrap.{wrap}
 use Rattle.zint.specs.WrapLaws.{wraps}
 use Rattle.zint.specs.ReadLaws.{r_var, r_call1, r_call2}

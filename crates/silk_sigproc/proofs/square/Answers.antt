@@ -1,7 +1,5 @@
 -- `silk_sigproc::square` meets its contract: the low 16 bits of a sample are the sample.
-use mathlib.Core.Path.{ap₂, ◌∙◌}
-use lib.IntN.{◌*ℤ◌}
-use mir.Syntax.{w16, w32}
+use Rattle.std.proofs.Common.{ap₂, ◌∙◌, ◌*ℤ◌, w16, w32}
 use Rattle.zint.specs.WrapLaws.{wrap_id}
 use Rattle.zint.specs.ReadLaws.{wide_32, r_call2}
 use Rattle.silk_macros.specs.Macros.{smulbb}

@@ -1,12 +1,7 @@
 -- `silk_sigproc::sum_pairs` meets its contract.
-use mathlib.Core.Path.{◌≡◌, sym, ap, ◌∙◌}
-use Prim.Native.Nat.{◌+◌, ◌*◌, ◌-◌}
-use native.Mathlib.Omega.{arith}
-use lib.IntN.{pos}
-use lib.ListN.{length, get_or, get_or-eq_default}
-use mir.Syntax.{w16}
+use Rattle.std.proofs.Common.{◌≡◌, sym, ap, ◌∙◌, ◌+◌, ◌*◌, ◌-◌, arith, pos, length, get_or, w16, rules}
+use Rattle.std.proofs.Math.ListN.{get_or-eq_default}
 use Rattle.zint.specs.ReadLaws.{r_elem}
-use borrow.Author.Rules.{rules}
 use Rattle.lists.specs.Signal.{sample}
 use Rattle.silk_sigproc.specs.SumSqr.{pairs}
 use Rattle.silk_sigproc.specs.SumSqrLaws.{summed_none, summed_turn, unscaled, summed_le, summed_all}

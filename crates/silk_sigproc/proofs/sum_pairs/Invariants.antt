@@ -1,5 +1,5 @@
 -- The invariants of `sum_pairs`.
-use Prim.Native.Nat.{◌≤◌}
+use Rattle.std.proofs.Common.{◌≤◌}
 use Rattle.silk_sigproc.specs.SumSqrLaws.{Summed}
 use Rattle.silk_sigproc.proofs.sum_pairs.Given as goal
 

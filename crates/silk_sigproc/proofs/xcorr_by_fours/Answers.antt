@@ -1,12 +1,5 @@
 -- `silk_sigproc::xcorr_by_fours` meets its contract.
-use mathlib.Core.Path.{◌≡◌, ap, ◌∙◌}
-use mathlib.Core.List.{List}
-use Prim.Native.Nat.{ℕ, ◌+◌, ◌*◌, ◌-◌}
-use native.Mathlib.Omega.{arith}
-use lib.IntN.{ℤ}
-use lib.ListN.{length, drop, take}
-use lib.Seq.{drop-drop}
-use mir.Syntax.{w32}
+use Rattle.std.proofs.Common.{◌≡◌, ap, ◌∙◌, List, ℕ, ◌+◌, ◌*◌, ◌-◌, arith, ℤ, length, drop, take, drop-drop, w32}
 use Rattle.zint.specs.Wrap.{wrap}
 use Rattle.lists.specs.Fill.{filled, tabulate}
 use Rattle.lists.specs.FillLaws.{filled_none, filled_more, tabulate_ext, tail_part}

@@ -1,6 +1,5 @@
 -- The invariants of `xcorr_by_fours`.
-use mathlib.Core.Path.{◌≡◌}
-use Prim.Native.Nat.{◌*◌}
+use Rattle.std.proofs.Common.{◌≡◌, ◌*◌}
 use Rattle.lists.specs.Fill.{filled}
 use Rattle.silk_sigproc.specs.DotLaws.{lag_dot}
 use Rattle.silk_sigproc.proofs.xcorr_by_fours.Given as goal

@@ -1,7 +1,6 @@
 -- `silk_sigproc::xcorr_kernel_scalar` meets its contract.
-use Rattle.std.proofs.Common.{◌≡◌, ℕ, ◌+◌, ◌<◌, ◌^◌, List, [], ◌∷◌, ap, ◌∙◌, arith, get_or, ℤ, pos, ◌+ℤ◌, ◌*ℤ◌, Fits, to_z, of_z}
+use Rattle.std.proofs.Common.{◌≡◌, ℕ, ◌+◌, ◌<◌, ◌^◌, List, [], ◌∷◌, ap, ◌∙◌, arith, get_or, ℤ, pos, ◌+ℤ◌, ◌*ℤ◌, Fits, to_z, of_z, w16, w32}
 use Rattle.std.specs.Int.Signed.{mag}
-use Rattle.std.specs.Int.{w16, w32}
 use Rattle.zint.specs.ReadLaws.{r_lit}
 use Rattle.zint.specs.Wrap.{wrap, mod_z}
 use Rattle.zint.specs.WrapLaws.{wrap_fits}

@@ -1,5 +1,5 @@
 -- `silk_tables::contours_in_use` meets its contract: the last stage's count.
-use mathlib.Core.Path.{sym, ◌∙◌}
+use Rattle.std.proofs.Common.{sym, ◌∙◌}
 use Rattle.silk_tables.specs.ContourLaws.{contours_8, contours_other}
 use Rattle.silk_tables.proofs.contours_in_use.Goals as goal
 

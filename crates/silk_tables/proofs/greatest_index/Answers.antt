@@ -1,7 +1,5 @@
 -- `silk_tables::greatest_index` meets its contract.
-use mathlib.Core.Path.{sym, ap, ap₂, ◌∙◌, subst}
-use native.Mathlib.Omega.{arith}
-use Prim.Native.Nat.{ℕ, ◌-◌, ◌≤◌}
+use Rattle.std.proofs.Common.{sym, ap, ap₂, ◌∙◌, subst, arith, ℕ, ◌-◌, ◌≤◌}
 use Rattle.silk_tables.specs.Tables.{greatest_index, greatest_lag, least_lag}
 use Rattle.silk_tables.specs.ContourLaws.{rate_span}
 use Rattle.silk_tables.proofs.greatest_index.Goals as goal

@@ -1,5 +1,5 @@
 -- `silk_tables::greatest_lag` meets its contract.
-use mathlib.Core.Path.{sym}
+use Rattle.std.proofs.Common.{sym}
 use Rattle.silk_tables.specs.ContourLaws.{greatest_lag_8, greatest_lag_other}
 use Rattle.silk_tables.proofs.greatest_lag.Goals as goal
 

@@ -1,7 +1,5 @@
 -- `silk_tables::lag_cb_stage2` meets its contract: a lookup in the table that nb chooses.
-use mathlib.Core.Path.{sym, ◌∙◌}
-use native.Mathlib.Omega.{arith}
-use borrow.Author.Rules.{rules}
+use Rattle.std.proofs.Common.{sym, ◌∙◌, arith, rules}
 use Rattle.silk_tables.specs.Tables.{offset2, cb_lags_stage2, cb_lags_stage2_10_ms}
 use Rattle.silk_tables.specs.EntryLaws.{entry_4, entry_2, wide_is}
 use Rattle.silk_tables.proofs.TableLaws.{two_or}

@@ -1,5 +1,5 @@
 -- `silk_tables::nb_cbk_search` meets its contract.
-use mathlib.Core.Path.{sym}
+use Rattle.std.proofs.Common.{sym}
 use Rattle.silk_tables.proofs.TableLaws.{in_use_4, in_use_other}
 use Rattle.silk_tables.proofs.nb_cbk_search.Goals as goal
 

@@ -1,6 +1,5 @@
 -- `silk_tables::nb_cbk_search_stage2` meets its contract: the count by the code's three tests.
-use mathlib.Core.Path.{refl, sym}
-use borrow.Author.Tests.{eq-eqb, ne_eqb, lt-ltb, le-ltb}
+use Rattle.std.proofs.Common.{refl, sym, eq-eqb, ne_eqb, lt-ltb, le-ltb}
 use Rattle.silk_tables.specs.Stage2Laws.{contours2_by, contours2_other}
 use Rattle.silk_tables.proofs.nb_cbk_search_stage2.Goals as goal
 use Rattle.silk_tables.proofs.nb_cbk_search_stage2.Goals.{else-fs_khz-eq8-via-then-fs_khz-eq8+else-complexity-gt-SILK_PE_MIN_COMPLEX, else-fs_khz-eq8-via-else-fs_khz-eq8}

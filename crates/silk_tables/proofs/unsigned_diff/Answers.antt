@@ -1,9 +1,5 @@
 -- `silk_tables::unsigned_diff` meets its contract.
-use mathlib.Core.Path.{ap, ◌∙◌}
-use lib.IntN.{nat_abs, ◌-ℤ◌}
-use mir.Syntax.{w32, w64}
-use mir.Val.{to_z, of_z}
-use native.Mathlib.Omega.{arith}
+use Rattle.std.proofs.Common.{ap, ◌∙◌, nat_abs, ◌-ℤ◌, w32, w64, to_z, of_z, arith}
 use Rattle.zint.specs.BoundLaws.{fits_abs}
 use Rattle.zint.specs.ReadLaws.{Reads, r_var, r_sub, f_sub, as_unsigned}
 use Rattle.zint.specs.ShiftLaws.{nonneg_abs}

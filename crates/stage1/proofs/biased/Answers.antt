@@ -1,9 +1,5 @@
 -- `stage1::biased` meets its contract.
-use Prim.Native.Nat.{ℕ, ◌*◌, ◌≤◌}
-use native.Mathlib.Omega.{arith}
-use lib.IntN.{pos, ◌-ℤ◌}
-use mir.Syntax.{w16, w32}
-use mir.Val.{SFits}
+use Rattle.std.proofs.Common.{ℕ, ◌*◌, ◌≤◌, arith, pos, ◌-ℤ◌, w16, w32, SFits}
 use Rattle.zint.specs.DiffLaws.{n, ◌⊖◌, sfits_by}
 use Rattle.zint.specs.BoundLaws.{add_32}
 use Rattle.zint.specs.Wrap.{wrap}

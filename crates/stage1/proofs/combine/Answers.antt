@@ -2,7 +2,7 @@
 use Rattle.std.proofs.Common.{rules, ◌≡◌, sym, subst, ap, ◌∙◌, ℕ, zero, suc, ◌+◌, ◌≤◌, ◌<◌, List, ℤ, pos, ◌+ℤ◌, get_or, arith}
 use Rattle.std.proofs.Math.Decide.{dec_lt}
 use Rattle.std.specs.Array.{IsFromFnResultFrom}
-use denote.Param.Members.{Mut, Called}
+use Rattle.std.specs.Fn.{Mut, Called}
 use Rattle.zint.specs.RuleLaws.{zneeds}
 use Rattle.lists.specs.Signal.{sample}
 use Rattle.lists.specs.FillLaws.{tabulate_is}

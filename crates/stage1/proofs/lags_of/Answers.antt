@@ -1,8 +1,5 @@
 -- `stage1::lags_of` meets its contract. The invariant: the array is filled below i.
-use mathlib.Core.Path.{◌≡◌, refl, ap, ◌∙◌}
-use Prim.Native.Nat.{ℕ, ◌+◌}
-use native.Mathlib.Omega.{arith}
-use lib.ListN.{length, get_or, replicate}
+use Rattle.std.proofs.Common.{◌≡◌, refl, ap, ◌∙◌, ℕ, ◌+◌, arith, length, get_or, replicate}
 use Rattle.lists.specs.Fill.{filled}
 use Rattle.lists.specs.FillLaws.{filled_none, filled_turn}
 use Rattle.stage1.proofs.lags_of.Goals as goal

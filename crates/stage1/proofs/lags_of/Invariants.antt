@@ -1,7 +1,5 @@
 -- The invariants of `lags_of`.
-use mathlib.Core.Path.{◌≡◌}
-use Prim.Native.Nat.{ℕ, ◌+◌}
-use lib.ListN.{get_or, replicate}
+use Rattle.std.proofs.Common.{◌≡◌, ℕ, ◌+◌, get_or, replicate}
 use Rattle.lists.specs.Fill.{filled}
 use Rattle.stage1.proofs.lags_of.Given as goal
 

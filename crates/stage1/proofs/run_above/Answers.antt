@@ -1,10 +1,7 @@
 -- `stage1::run_above` meets its contract: the first score that is not above the threshold.
-use Rattle.std.proofs.Common.{◌≡◌, ◌∙◌, arith, rules, length, ◌≤◌, ◌<◌, ℕ, ℤ, pos, List, Option, Some, None}
-use lib.Signed.{◌<ℤ◌, ◌≤ℤ◌}
-use borrow.Author.Tests.{tests}
+use Rattle.std.proofs.Common.{◌≡◌, ◌∙◌, arith, rules, length, ◌≤◌, ◌<◌, ℕ, ℤ, pos, List, Option, Some, None, ◌<ℤ◌, ◌≤ℤ◌, tests, MatchOption, unwrap_or, HoldsAt}
 use Rattle.std.proofs.lemmas.Iterator.{YieldsList-from_slice, IsFirst-from_position}
-use Rattle.std.specs.Option.{MatchOption, unwrap_or}
-use Rattle.std.specs.List.{AllWithin, HoldsAt}
+use Rattle.std.specs.List.{AllWithin}
 use Rattle.lists.specs.Signal.{sample}
 use Rattle.stage1.specs.KeptLaws.{count_above_is}
 use Rattle.stage1.specs.Steps.{count_above}

@@ -1,11 +1,9 @@
 -- `stage1::search_stage1` meets its contract: the arrays that the sort leaves are the ranking of the scores.
-use Rattle.std.proofs.Common.{Option, Some, None, Result, Ok, Err, ok_or, ◌≡◌, sym, ap, ◌∙◌, false, List, [], ℕ, ◌≤◌, ◌<◌, ℤ, arith, length, take, get_or, get_or-take, length-take-le}
+use Rattle.std.proofs.Common.{Option, Some, None, Result, Ok, Err, ok_or, ◌≡◌, sym, ap, ◌∙◌, false, List, [], ℕ, ◌≤◌, ◌<◌, ℤ, arith, length, take, get_or, get_or-take, length-take-le, w32, to_z, of_z}
 use Rattle.std.proofs.lemmas.Result.{err_from_is_err_and}
 use Rattle.answers.specs.declared.NoPitch.{NoPitch}
 use Rattle.answers.specs.declared.NoPitch.TheVariants.{ZeroDivisor as ByZero}
 use Rattle.answers.specs.Answer.{answer_numbers}
-use Rattle.std.specs.Int.{w32}
-use mir.Val.{to_z, of_z}
 use Rattle.stage1.specs.declared.candidates.Candidates.{Candidates}
 use Rattle.stage1.specs.Stage1.{Stage1, zero1, scores1, answer_of, stage1, screen_numbers, screen_number}
 use Rattle.stage1.specs.AnswerLaws.{screen_in_numbers}

@@ -1,14 +1,6 @@
 -- `stage1::select` meets its contract: the best score is the first of the sorted ones.
-use mathlib.Core.List.{List}
-use mathlib.Core.Path.{◌≡◌, ap, ◌∙◌}
-use Prim.Native.Nat.{ℕ, ◌+◌, ◌≤◌, ◌<◌}
-use native.Mathlib.Omega.{arith}
-use lib.IntN.{ℤ, pos}
-use lib.ListN.{length, take, get_or, replicate}
-use Rattle.std.proofs.Common.{get_or-take, length-take-le}
+use Rattle.std.proofs.Common.{get_or-take, length-take-le, List, ◌≡◌, ap, ◌∙◌, ℕ, ◌+◌, ◌≤◌, ◌<◌, arith, ℤ, pos, length, take, get_or, replicate, w16, w32, SFits, to_z, of_z}
 use Rattle.lists.specs.Fill.{filled}
-use mir.Syntax.{w16, w32}
-use mir.Val.{SFits, to_z, of_z}
 use Rattle.zint.specs.ReadLaws.{Reads, r_var, wide_32, r_call2, t_below}
 use Rattle.lists.specs.Signal.{sample}
 use Rattle.silk_macros.specs.Macros.{smulwb}

@@ -1,16 +1,10 @@
 -- `stage2::answer` meets its contract.
-use Rattle.std.specs.Prelude.{Option, Some, None, Ok, Err, ok_or, refl}
-use mathlib.Core.Path.{◌≡◌, sym, ap, ap₂, ◌∙◌, subst}
-use Prim.Native.Nat.{ℕ, ◌≤◌}
+use Rattle.std.proofs.Common.{Option, Some, None, Ok, Err, ok_or, refl, ◌≡◌, sym, ap, ap₂, ◌∙◌, subst, ℕ, ◌≤◌, arith, ℤ, pos, nat_abs, ◌*ℤ◌, w32, SFits, to_z, of_z}
 use Rattle.std.proofs.lemmas.Result.{err_from_is_err_and}
+use Rattle.std.specs.Int.Signed.{quot_z}
 use Rattle.answers.specs.declared.NoPitch.{NoPitch}
 use Rattle.answers.specs.declared.NoPitch.TheVariants.{Unvoiced as HasNone}
 use Rattle.stage2.specs.declared.BestLag.{BestLag}
-use native.Mathlib.Omega.{arith}
-use lib.IntN.{ℤ, pos, nat_abs, ◌*ℤ◌}
-use lib.Signed.{quot_z}
-use mir.Syntax.{w32}
-use mir.Val.{SFits, to_z, of_z}
 use Rattle.zint.specs.BoundLaws.{abs_fits, abs_prod}
 use Rattle.zint.specs.WrapLaws.{wrap_id}
 use Rattle.zint.specs.ReadLaws.{r_nat, r_got, r_call1}

@@ -1,11 +1,6 @@
 -- `stage2::biased_score` meets its contract.
-use mathlib.Core.Path.{◌≡◌, ◌∙◌}
-use Prim.Native.Nat.{ℕ, ◌*◌, ◌≤◌, ◌<◌}
-use native.Mathlib.Omega.{arith}
-use lib.IntN.{ℤ, pos, nat_abs, ◌-ℤ◌}
-use lib.Signed.{mag, shr_z}
-use mir.Syntax.{w32}
-use mir.Val.{SFits, to_z, of_z}
+use Rattle.std.proofs.Common.{◌≡◌, ◌∙◌, ℕ, ◌*◌, ◌≤◌, ◌<◌, arith, ℤ, pos, nat_abs, ◌-ℤ◌, w32, SFits, to_z, of_z, rules}
+use Rattle.std.specs.Int.Signed.{mag, shr_z}
 use Rattle.zint.specs.BoundLaws.{abs_fits}
 use Rattle.zint.specs.ReadLaws.{Reads, r_var, r_nat, r_sub, r_call1, r_call2, f_sub, t_above}
 use Rattle.silk_macros.specs.Macros.{smulbb}
@@ -13,7 +8,6 @@ use Rattle.silk_macros.specs.Log.{lin2log}
 use Rattle.stage2.specs.Scores.{lag_bias, distance, prev_bias}
 use Rattle.stage2.specs.ScoreLaws.{log_small, distance_low, distance_high, less_lag_bias, less_prev_bias, biased_yes, biased_no}
 use Rattle.stage2.proofs.biased_score.Goals as goal
-use borrow.Author.Rules.{rules}
 
 -- the numbers on the way, and that they fit
 module _ (cc : ℤ) (nb d : ℕ) (prev corr : ℤ) where

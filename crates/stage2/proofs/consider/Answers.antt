@@ -1,11 +1,5 @@
 -- `stage2::consider` meets its contract.
-use mathlib.Core.Path.{ap₂, ◌∙◌}
-use mathlib.Core.Bool.{true, false}
-use Rattle.std.specs.Prelude.{Some}
-use lib.IntN.{ℤ}
-use mir.Syntax.{w32}
-use mir.Val.{SFits}
-use borrow.Author.Rules.{rules}
+use Rattle.std.proofs.Common.{ap₂, ◌∙◌, true, false, Some, ℤ, w32, SFits, rules}
 use Rattle.zint.specs.ReadLaws.{r_var, r_got, t_lt, via_lt}
 use Rattle.stage2.specs.SearchLaws.{takes, keeps, fails}
 use Rattle.stage2.proofs.consider.Goals as goal

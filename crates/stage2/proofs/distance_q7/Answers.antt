@@ -1,8 +1,6 @@
 -- `stage2::distance_q7` meets its contract.
-use lib.IntN.{ℤ, ◌-ℤ◌}
-use lib.Signed.{shr_z}
-use mir.Syntax.{w32}
-use mir.Val.{SFits}
+use Rattle.std.proofs.Common.{ℤ, ◌-ℤ◌, w32, SFits}
+use Rattle.std.specs.Int.Signed.{shr_z}
 use Rattle.zint.specs.BoundLaws.{abs_sub, abs_fits}
 use Rattle.zint.specs.ReadLaws.{r_var, r_sub, r_call1, r_call2, f_sub}
 use Rattle.silk_macros.specs.Macros.{smulbb}

@@ -1,8 +1,5 @@
 -- `stage2::lag_search` meets its contract.
-use mathlib.Core.Path.{◌≡◌, ap, ap₂, ◌∙◌}
-use native.Mathlib.Omega.{arith}
-use mir.Syntax.{w32}
-use mir.Val.{to_z, of_z}
+use Rattle.std.proofs.Common.{◌≡◌, ap, ap₂, ◌∙◌, arith, w32, to_z, of_z}
 use Rattle.zint.specs.RuleLaws.{zneeds}
 use Rattle.zint.specs.ReadLaws.{r_nat, r_got}
 use Rattle.silk_macros.specs.Macros.{smulbb}

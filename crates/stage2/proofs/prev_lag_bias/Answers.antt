@@ -1,11 +1,6 @@
 -- `stage2::prev_lag_bias` meets its contract.
-use mathlib.Core.Path.{◌≡◌, sym, ap, ◌∙◌}
-use Prim.Native.Nat.{◌+◌, ◌*◌}
-use native.Mathlib.Omega.{arith}
-use lib.IntN.{ℤ, pos, nat_abs, ◌+ℤ◌, ◌*ℤ◌}
-use lib.Signed.{shr_z, quot_z}
-use mir.Syntax.{w32}
-use mir.Val.{SFits, to_z, of_z}
+use Rattle.std.proofs.Common.{◌≡◌, sym, ap, ◌∙◌, ◌+◌, ◌*◌, arith, ℤ, pos, nat_abs, ◌+ℤ◌, ◌*ℤ◌, w32, SFits, to_z, of_z}
+use Rattle.std.specs.Int.Signed.{shr_z, quot_z}
 use Rattle.zint.specs.BoundLaws.{abs_fits}
 use Rattle.zint.specs.DiffLaws.{v, n as num, ◌⊕◌, sfits_by, zarith}
 use Rattle.zint.specs.Wrap.{wrap}

@@ -1,12 +1,6 @@
 -- `stage2::previous_8khz` meets its contract.
-use mathlib.Core.Path.{◌≡◌, ap, ◌∙◌}
-use mathlib.Core.Bool.{true}
-use Prim.Native.Nat.{ℕ}
-use native.Mathlib.Omega.{arith}
-use lib.IntN.{ℤ, pos, nat_abs, ◌*ℤ◌}
-use lib.Signed.{lt_z, quot_z}
-use mir.Syntax.{w32}
-use mir.Val.{SFits, to_z, of_z}
+use Rattle.std.proofs.Common.{◌≡◌, ap, ◌∙◌, true, ℕ, arith, ℤ, pos, nat_abs, ◌*ℤ◌, w32, SFits, to_z, of_z}
+use Rattle.std.specs.Int.Signed.{lt_z, quot_z}
 use Rattle.zint.specs.BoundLaws.{abs_fits}
 use Rattle.zint.specs.Wrap.{wrap}
 use Rattle.zint.specs.WrapLaws.{wrap_fits}

@@ -1,19 +1,12 @@
 -- `stage2::search_stage2` meets its contract.
-use mathlib.Core.Path.{◌≡◌, sym, ap, ◌∙◌, subst, transport}
-use mathlib.Core.Bool.{Bool, false}
-use mathlib.Core.List.{List}
-use Prim.Native.Nat.{ℕ, ◌+◌}
-use native.Mathlib.Omega.{arith}
-use borrow.Author.Count.{below_more}
-use lib.IntN.{ℤ, pos}
-use lib.ListN.{replicate}
+use Rattle.std.proofs.Common.{◌≡◌, sym, ap, ◌∙◌, subst, Bool, false, List, ℕ, ◌+◌, arith, below_more, ℤ, pos, replicate, Result, Ok, Err, true, refl}
+use Rattle.std.proofs.Math.Path.{transport}
 use Rattle.lists.specs.Fill.{tabulate}
 use Rattle.lists.specs.FillLaws.{filled_none, filled_turn}
 use Rattle.stage2_correlations.specs.Marks.{measured}
 use Rattle.stage2_correlations.specs.Correlations.{target2, correlation2}
 use Rattle.stage2_correlations.specs.Rows.{row_by, subframe_row}
 use Rattle.stage2_correlations.specs.RowLaws.{subframe_row_kept, zero_in2, zero_row}
-use Rattle.std.specs.Prelude.{Result, Ok, Err, true, refl}
 use Rattle.stage2.specs.Stage2.{ZeroDivisor, answer_of}
 use Rattle.stage2.specs.NumberLaws.{and_numbers}
 use Rattle.silk_tables.proofs.TableLaws.{two_to_four}

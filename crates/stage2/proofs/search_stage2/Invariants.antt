@@ -1,7 +1,5 @@
 -- The invariants of `search_stage2`.
-use mathlib.Core.Path.{◌≡◌}
-use mathlib.Core.Bool.{false}
-use Prim.Native.Nat.{ℕ, ◌+◌, ◌≤◌, ◌<◌}
+use Rattle.std.proofs.Common.{◌≡◌, false, ℕ, ◌+◌, ◌≤◌, ◌<◌}
 use Rattle.lists.specs.Fill.{tabulate}
 use Rattle.stage2_correlations.specs.Marks.{measured}
 use Rattle.stage2_correlations.specs.RowLaws.{zero_in2}

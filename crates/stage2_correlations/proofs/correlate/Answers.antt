@@ -1,12 +1,5 @@
 -- `stage2_correlations::correlate` meets its contract.
-use mathlib.Core.Path.{sym, ap, ap₂, ◌∙◌}
-use mathlib.Core.Bool.{Bool, cond}
-use mathlib.Core.List.{List}
-use Prim.Native.Nat.{◌-◌}
-use lib.IntN.{ℤ, pos}
-use Rattle.std.specs.Prelude.{Some}
-use lib.ListN.{drop}
-use mir.Syntax.{w32}
+use Rattle.std.proofs.Common.{sym, ap, ap₂, ◌∙◌, Bool, cond, List, ◌-◌, ℤ, pos, Some, drop, w32}
 use Rattle.zint.specs.Wrap.{wrap}
 use Rattle.zint.specs.ReadLaws.{r_var, r_got}
 use Rattle.lists.specs.FillLaws.{tail_part}

@@ -1,15 +1,10 @@
 -- `stage2_correlations::divide` meets its contract.
-use Rattle.std.specs.Prelude.{Option, Some}
-use mathlib.Core.Path.{◌≡◌, sym, ap, ap₂, ◌∙◌}
-use lib.IntN.{ℤ, pos}
+use Rattle.std.proofs.Common.{Option, Some, ◌≡◌, sym, ap, ap₂, ◌∙◌, ℤ, pos, w16, w32, SFits, to_z, of_z, rules}
 use Rattle.zint.specs.ReadLaws.{r_var, r_got, t_above}
 use Rattle.zint.specs.Wrap.{wrap}
-use mir.Syntax.{w16, w32}
-use mir.Val.{SFits, to_z, of_z}
 use Rattle.silk_macros.specs.Divide.{quotient}
 use Rattle.stage2_correlations.specs.RowLaws.{ratio_none, ratio_value, ratio_zero}
 use Rattle.zint.specs.RuleLaws.{zneeds}
-use borrow.Author.Rules.{rules}
 use Rattle.stage2_correlations.proofs.divide.Goals as goal
 
 -- what was divided

@@ -1,10 +1,6 @@
 -- The invariants of `subframe_row`.
-use mathlib.Core.Path.{◌≡◌}
+use Rattle.std.proofs.Common.{◌≡◌, ◌+◌, ◌-◌, ◌≤◌, pos, ◌+ℤ◌, replicate, w32}
 use Rattle.best.specs.Best.{some}
-use Prim.Native.Nat.{◌+◌, ◌-◌, ◌≤◌}
-use lib.IntN.{pos, ◌+ℤ◌}
-use lib.ListN.{replicate}
-use mir.Syntax.{w32}
 use Rattle.zint.specs.Wrap.{wrap}
 use Rattle.lists.specs.Fill.{filled}
 use Rattle.silk_sigproc.specs.Dot.{energy_sum}

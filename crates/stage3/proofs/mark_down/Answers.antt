@@ -1,12 +1,9 @@
 -- `stage3::mark_down` meets its contract.
-use lib.IntN.{pos, ◌-ℤ◌, ◌*ℤ◌}
-use mir.Syntax.{w32}
-use mir.Val.{SFits, to_z, of_z}
+use Rattle.std.proofs.Common.{pos, ◌-ℤ◌, ◌*ℤ◌, w32, SFits, to_z, of_z, arith}
 use Rattle.zint.specs.ReadLaws.{Reads, r_var, r_nat, r_lit, r_mul, r_sub, r_call2, f_mul, f_sub}
 use Rattle.silk_macros.specs.Macros.{smulwb}
 use Rattle.stage3.specs.Pick.{biased}
 use Rattle.stage3.specs.PickLaws.{product_fits, diff_fits}
-use native.Mathlib.Omega.{arith}
 use Rattle.stage3.proofs.mark_down.Goals as goal
 
 -- the contour's number, and the bias times it

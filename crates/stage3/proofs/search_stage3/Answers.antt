@@ -1,12 +1,6 @@
 -- `stage3::search_stage3` meets its contract: the arrays, the target energy and the bias are what the definition has.
-use mathlib.Core.Path.{◌≡◌, ap, ◌∙◌}
-use Prim.Native.Nat.{ℕ, ◌≤◌}
-use native.Mathlib.Nat.{div-le_self}
-use mathlib.Core.List.{List}
-use lib.IntN.{ℤ, pos, nat_abs}
-use lib.Signed.{quot_z}
-use mir.Syntax.{w32}
-use mir.Val.{SFits}
+use Rattle.std.proofs.Common.{◌≡◌, ap, ◌∙◌, ℕ, ◌≤◌, div-le_self, List, ℤ, pos, nat_abs, w32, SFits, arith}
+use Rattle.std.specs.Int.Signed.{quot_z}
 use Rattle.zint.specs.ReadLaws.{r_nat, r_got, r_holds}
 use Rattle.stage3.specs.Pick.{answer_of, bias_of, first_tried}
 use Rattle.stage3.specs.PickLaws.{first_low, last_le, first_le_last}
@@ -15,7 +9,6 @@ use Rattle.silk_tables.specs.ContourLaws.{greatest_lag_le}
 use Rattle.stage3.specs.SearchLaws.{array_pick}
 use Rattle.stage3.specs.NumberLaws.{and_numbers}
 use Rattle.stage3.specs.declared.pair_search.PairSearch.{PairSearch}
-use native.Mathlib.Omega.{arith}
 use Rattle.stage3.proofs.search_stage3.Goals as goal
 
 -- the lag is small, and the first lag tried is one of the frame

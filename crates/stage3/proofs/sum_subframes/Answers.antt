@@ -1,14 +1,5 @@
 -- `stage3::sum_subframes` meets its contract.
-use mathlib.Core.Path.{◌≡◌, refl, sym, ap, ap₂, ◌∙◌}
-use mathlib.Core.List.{List, []}
-use Prim.Native.Nat.{ℕ, ◌<◌}
-use lib.IntN.{ℤ, pos, ◌+ℤ◌}
-use lib.ListN.{get_or}
-use mir.Syntax.{w32}
-use mir.Val.{to_z, of_z}
-use native.Mathlib.Omega.{arith}
-use Rattle.std.specs.Prelude.{take}
-use Rattle.std.proofs.lemmas.List.{get_or-take, length-take}
+use Rattle.std.proofs.Common.{◌≡◌, refl, sym, ap, ap₂, ◌∙◌, List, [], ℕ, ◌<◌, ℤ, pos, ◌+ℤ◌, get_or, w32, to_z, of_z, arith, take, get_or-take, length-take}
 use Rattle.zint.specs.ReadLaws.{r_var, r_got}
 use Rattle.zint.specs.RuleLaws.{zneeds}
 use Rattle.zint.specs.Clamp.{sat}

@@ -1,6 +1,5 @@
 -- The sum of the subframes so far.
-use mathlib.Core.Path.{◌≡◌}
-use Prim.Native.Nat.{ℕ}
+use Rattle.std.proofs.Common.{◌≡◌, ℕ}
 use Rattle.stage3.specs.Stage3.{sat_sum}
 use Rattle.stage3.specs.Search.{at3}
 use Rattle.stage3.proofs.sum_subframes.Given as goal

@@ -1,7 +1,5 @@
 -- `stage3::target_energy` meets its contract.
-use mathlib.Core.Path.{◌∙◌}
-use lib.IntN.{ℤ, ◌+ℤ◌}
-use mir.Syntax.{w32}
+use Rattle.std.proofs.Common.{◌∙◌, ℤ, ◌+ℤ◌, w32}
 use Rattle.zint.specs.ReadLaws.{r_got, r_lit, r_call2}
 use Rattle.zint.specs.Wrap.{wrap}
 use Rattle.zint.specs.WrapLaws.{wraps}

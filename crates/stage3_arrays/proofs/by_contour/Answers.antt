@@ -1,13 +1,5 @@
 -- `stage3_arrays::by_contour` meets its contract: the places by the codebook's row.
-use mathlib.Core.Path.{◌≡◌, sym, ap, ◌∙◌, subst}
-use mathlib.Core.List.{List}
-use Prim.Native.Nat.{ℕ, ◌+◌, ◌≤◌, ◌<◌}
-use lib.IntN.{ℤ, pos, nat_abs, ◌-ℤ◌}
-use lib.ListN.{length, get_or}
-use mir.Syntax.{w32}
-use mir.Val.{to_z, of_z}
-use Rattle.std.specs.Prelude.{take}
-use Rattle.std.proofs.lemmas.List.{get_or-take, length-take}
+use Rattle.std.proofs.Common.{◌≡◌, sym, ap, ◌∙◌, subst, List, ℕ, ◌+◌, ◌≤◌, ◌<◌, ℤ, pos, nat_abs, ◌-ℤ◌, length, get_or, w32, to_z, of_z, take, get_or-take, length-take, arith}
 use Rattle.zint.specs.ReadLaws.{r_is}
 use Rattle.lists.specs.Fill.{tabulate}
 use Rattle.lists.specs.FillLaws.{length_tabulate, get_d_tabulate}
@@ -15,7 +7,6 @@ use Rattle.silk_tables.specs.Tables.{TableSettings, in_use, offset, range_low, r
 use Rattle.silk_tables.proofs.TableLaws.{in_use_bounds, low_fits, place_fits, place_nonneg, place_total, total_le}
 use Rattle.stage3_arrays.specs.Arrays.{subframe_array, Placed}
 use Rattle.stage3_arrays.specs.ArrayLaws.{array_ext}
-use native.Mathlib.Omega.{arith}
 use Rattle.stage3_arrays.proofs.by_contour.Goals as goal
 
 -- the offsets in use, and the range's start, as the code has them

@@ -1,16 +1,11 @@
 -- `stage3_arrays::by_subframe` meets its contract. The invariant: the subframes below k are filled.
-use mathlib.Core.Path.{◌≡◌, ap, ap₂, ◌∙◌}
-use mathlib.Core.List.{List}
-use Prim.Native.Nat.{ℕ, ◌<◌}
-use lib.IntN.{ℤ, pos}
-use lib.ListN.{replicate}
+use Rattle.std.proofs.Common.{◌≡◌, ap, ap₂, ◌∙◌, List, ℕ, ◌<◌, ℤ, pos, replicate, arith}
 use Rattle.lists.specs.Fill.{filled}
 use Rattle.lists.specs.FillLaws.{filled_none, filled_turn}
 use Rattle.silk_tables.specs.Tables.{in_use}
 use Rattle.stage3_arrays.specs.Arrays.{subframe_array, frame_array, lag_range, numbers_at}
 use Rattle.stage3_arrays.specs.declared.LagRange.{LagRange}
 use Rattle.stage3_arrays.specs.ArrayLaws.{numbers_array}
-use native.Mathlib.Omega.{arith}
 use Rattle.stage3_arrays.proofs.by_subframe.Goals as goal
 
 pub loop-k-init : goal.loop-k-init

@@ -1,8 +1,5 @@
 -- The invariants of `by_subframe`.
-use mathlib.Core.Path.{◌≡◌}
-use Prim.Native.Nat.{ℕ}
-use lib.IntN.{pos}
-use lib.ListN.{replicate}
+use Rattle.std.proofs.Common.{◌≡◌, ℕ, pos, replicate}
 use Rattle.lists.specs.Fill.{filled}
 use Rattle.silk_tables.specs.Tables.{in_use}
 use Rattle.stage3_arrays.specs.Arrays.{subframe_array, numbers_at}

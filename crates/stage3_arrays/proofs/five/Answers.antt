@@ -1,12 +1,5 @@
 -- `stage3_arrays::five` meets its contract.
-use mathlib.Core.Path.{◌≡◌, sym, ap, ◌∙◌}
-use mathlib.Core.List.{List}
-use Prim.Native.Nat.{ℕ, ◌+◌, ◌-◌, ◌≤◌}
-use lib.IntN.{ℤ, pos}
-use lib.ListN.{length, get_or, drop}
-use Rattle.std.specs.Prelude.{take}
-use Rattle.std.proofs.lemmas.List.{get_or-take, get_or-drop, length-take, length-drop}
-use native.Mathlib.Omega.{arith}
+use Rattle.std.proofs.Common.{◌≡◌, sym, ap, ◌∙◌, List, ℕ, ◌+◌, ◌-◌, ◌≤◌, ℤ, pos, length, get_or, drop, take, get_or-take, get_or-drop, length-take, length-drop, arith}
 use Rattle.lists.specs.Fill.{tabulate}
 use Rattle.lists.specs.FillLaws.{tabulate_is}
 use Rattle.stage3_arrays.proofs.five.Goals as goal

@@ -1,5 +1,5 @@
 -- `stage3_arrays::silk_p_ana_calc_corr_st3` meets its contract.
-use mathlib.Core.Path.{◌∙◌}
+use Rattle.std.proofs.Common.{◌∙◌}
 use Rattle.stage3_arrays.specs.ArrayLaws.{cross_array}
 use Rattle.stage3_arrays.proofs.silk_p_ana_calc_corr_st3.Goals as goal
 

@@ -1,6 +1,5 @@
 -- `stage3_arrays::slide` meets its contract.
-use lib.IntN.{ℤ, ◌+ℤ◌, ◌-ℤ◌, ◌*ℤ◌}
-use mir.Syntax.{w32}
+use Rattle.std.proofs.Common.{ℤ, ◌+ℤ◌, ◌-ℤ◌, ◌*ℤ◌, w32}
 use Rattle.zint.specs.ReadLaws.{r_var, r_call1, r_call2}
 use Rattle.zint.specs.Wrap.{wrap}
 use Rattle.stage3_arrays.specs.Arrays.{step}

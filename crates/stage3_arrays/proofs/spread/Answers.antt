@@ -1,16 +1,10 @@
 -- `stage3_arrays::spread` meets its contract. The invariant: the contours below i are filled.
-use mathlib.Core.Path.{◌≡◌, ap, ap₂, ◌∙◌}
-use Prim.Native.Nat.{ℕ, ◌+◌}
-use lib.IntN.{ℤ, pos, nat_abs, ◌-ℤ◌}
-use lib.ListN.{length, get_or, replicate}
-use mir.Syntax.{w8, w32}
-use mir.Val.{to_z, of_z}
+use Rattle.std.proofs.Common.{◌≡◌, ap, ap₂, ◌∙◌, ℕ, ◌+◌, ℤ, pos, nat_abs, ◌-ℤ◌, length, get_or, replicate, w8, w32, to_z, of_z, arith}
 use Rattle.zint.specs.ReadLaws.{r_var}
 use Rattle.zint.specs.RuleLaws.{zneeds}
 use Rattle.lists.specs.Fill.{tabulate, filled}
 use Rattle.lists.specs.FillLaws.{filled_none, filled_turn}
 use Rattle.stage3_arrays.specs.Arrays.{subframe_array}
-use native.Mathlib.Omega.{arith}
 use Rattle.stage3_arrays.proofs.spread.Invariants.{five_of}
 use Rattle.stage3_arrays.proofs.spread.Goals as goal
 

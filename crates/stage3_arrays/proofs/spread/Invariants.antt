@@ -1,9 +1,5 @@
 -- The contours below i are filled.
-use mathlib.Core.Path.{◌≡◌}
-use mathlib.Core.List.{List}
-use Prim.Native.Nat.{ℕ, ◌+◌}
-use lib.IntN.{ℤ, pos, nat_abs, ◌-ℤ◌}
-use lib.ListN.{get_or, replicate}
+use Rattle.std.proofs.Common.{◌≡◌, List, ℕ, ◌+◌, ℤ, pos, nat_abs, ◌-ℤ◌, get_or, replicate}
 use Rattle.lists.specs.Fill.{tabulate, filled}
 use Rattle.stage3_arrays.proofs.spread.Given as goal
 

@@ -1,6 +1,5 @@
 -- `track_run::deliver_parts` meets its contract: a turn delivers the next part, and at the end nothing is left.
-use Rattle.std.specs.Prelude.{◌≡◌, ℕ, ◌+◌, ◌-◌, ◌≤◌, ◌<◌, min, List, ℤ, length, get_or, take, drop}
-use Rattle.std.proofs.Common.{sym, ap, subst, ◌∙◌, arith, length-set, length-drop, drop-drop}
+use Rattle.std.proofs.Common.{sym, ap, subst, ◌∙◌, arith, length-set, length-drop, drop-drop, ◌≡◌, ℕ, ◌+◌, ◌-◌, ◌≤◌, ◌<◌, min, List, ℤ, length, get_or, take, drop}
 use Rattle.std.proofs.lemmas.List.{take_min, drop_min}
 use Rattle.track_chain.specs.Chain.{Left, chain}
 use Rattle.track_run.specs.Run.{parts}

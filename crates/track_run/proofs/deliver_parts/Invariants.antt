@@ -1,5 +1,5 @@
 -- The invariant of `deliver_parts`: the whole chain leaves what the rest of it leaves from here, with i answers before it.
-use Rattle.std.specs.Prelude.{◌≡◌, ◌≤◌, length, drop}
+use Rattle.std.proofs.Common.{◌≡◌, ◌≤◌, length, drop}
 use Rattle.track_chain.specs.Chain.{chain}
 use Rattle.track_run.specs.Run.{parts}
 use Rattle.track_run.proofs.Ahead.{Ahead}

@@ -1,6 +1,5 @@
 -- `track_run::run` meets its contract: with settings that are accepted it is the chain of the deliveries that have a place, and else the start alone.
-use Rattle.std.specs.Prelude.{◌≡◌, Result, ℕ, min, List, ◌++◌, ℤ, length, take, drop}
-use Rattle.std.proofs.Common.{sym, ap, ◌∙◌, arith}
+use Rattle.std.proofs.Common.{sym, ap, ◌∙◌, arith, ◌≡◌, Result, ℕ, min, List, ◌++◌, ℤ, length, take, drop}
 use Rattle.std.proofs.lemmas.List.{take_min}
 use Rattle.refusals.specs.declared.Refusal.{Refusal}
 use Rattle.refusals.specs.Refusals.{told}

@@ -1,9 +1,6 @@
 -- `track_text::put_head` meets its contract.
-use mathlib.Core.Path.{◌≡◌}
-use Rattle.std.proofs.Common.{ℕ, ◌+◌, ◌≤◌, Fits, w32}
+use Rattle.std.proofs.Common.{ℕ, ◌+◌, ◌≤◌, Fits, w32, ◌≡◌, arith, length, length-set}
 use Rattle.pitch_text.specs.Decimal.{digits}
-use native.Mathlib.Omega.{arith}
-use lib.ListN.{length, length-set}
 use Rattle.pitch_text.specs.DecimalLaws.{digits_word}
 use Rattle.pitch_text.specs.TextLaws.{put_then, put_byte}
 use Rattle.track_text.specs.Program.{track_head}

@@ -1,7 +1,5 @@
 -- `track_text::samples_left` meets its contract.
-use mathlib.Core.Path.{sym, ◌∙◌}
-use native.Mathlib.Omega.{arith}
-use borrow.Author.Tests.{eq-eqb, ne_eqb}
+use Rattle.std.proofs.Common.{sym, ◌∙◌, arith, eq-eqb, ne_eqb}
 use Rattle.track_paper.specs.Paper.{F}
 use Rattle.track_text.specs.Program.{samples_left}
 use Rattle.pitch_recording.specs.RecordingLaws.{last_frame}

@@ -1,5 +1,5 @@
 -- `track_text::track_rows` meets its contract.
-use mathlib.Core.Path.{ap, ◌∙◌}
+use Rattle.std.proofs.Common.{ap, ◌∙◌}
 use Rattle.pitch_track.specs.Step.{Said, delivery_outcome, deliver_call}
 use Rattle.track_text.specs.ProgramLaws.{tracked}
 use Rattle.track_text.proofs.track_rows.Goals as goal

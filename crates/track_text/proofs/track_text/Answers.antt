@@ -1,9 +1,5 @@
 -- `track_text::track_text` meets its contract.
-use mathlib.Core.Path.{sym, ap, ap₂, ◌∙◌}
-use mathlib.Core.List.{List, ◌++◌}
-use native.Mathlib.Omega.{arith}
-use lib.IntN.{ℤ}
-use lib.Seq.{length-take-le}
+use Rattle.std.proofs.Common.{sym, ap, ap₂, ◌∙◌, List, ◌++◌, arith, ℤ, length-take-le}
 use Rattle.pitch_recording.specs.Recording.{recording_printed}
 use Rattle.pitch_recording.specs.RecordingLaws.{is_taken, is_refused, any_taken, taken_room, printed_refused, printed_taken}
 use Rattle.pitch_text.specs.TextLaws.{put_as, put_count, put_over}

@@ -1,6 +1,5 @@
 -- `zint::as_i16` meets its contract: the low 16 bits fit.
-use mir.Syntax.{w16, w32}
-use mir.Val.{of_z}
+use Rattle.std.proofs.Common.{w16, w32, of_z}
 use Rattle.zint.specs.Wrap.{wrap}
 use Rattle.zint.specs.WrapLaws.{wrap_fits}
 use Rattle.zint.specs.ReadLaws.{Reads, r_var, r_call1, r_cast, f_cast}

@@ -1,6 +1,5 @@
 -- `zint::rotate_right_i32` meets its contract: std's method turns the number's bits.
-use Rattle.std.proofs.Common.{ℕ, ◌%◌, ◌^◌, ◌<◌, ◌∙◌, ap, sym, arith, of_z, to_z, ◌≡◌, mod-eq_of_lt, lit<}
-use Rattle.std.specs.Int.{w32}
+use Rattle.std.proofs.Common.{ℕ, ◌%◌, ◌^◌, ◌<◌, ◌∙◌, ap, sym, arith, of_z, to_z, ◌≡◌, mod-eq_of_lt, lit<, w32}
 use Rattle.std.specs.Int as std
 use Rattle.zint.specs.ReadLaws.{r_got}
 use Rattle.zint.specs.Rotate.{rotate_right, rotate_right_i32}

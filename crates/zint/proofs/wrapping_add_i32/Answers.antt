@@ -1,7 +1,6 @@
 -- `zint::wrapping_add_i32` meets its contract: std's method, in the words of `wrap`.
-use Rattle.std.proofs.Common.{◌∙◌, ◌+ℤ◌}
+use Rattle.std.proofs.Common.{◌∙◌, ◌+ℤ◌, w32}
 use Rattle.std.proofs.lemmas.Int.{wrapping_add_is}
-use Rattle.std.specs.Int.{w32}
 use Rattle.zint.specs.WrapLaws.{wrap_of_std}
 use Rattle.zint.proofs.wrapping_add_i32.Goals as goal
 

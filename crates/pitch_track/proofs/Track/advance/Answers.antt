@@ -1,7 +1,5 @@
 -- `Track::advance` meets its contract: the rows are the track's on paper, and what is left of the samples is held.
-use Rattle.std.specs.Prelude.{◌≡◌, refl, ℕ, ◌+◌, ◌-◌, ◌*◌, ◌≤◌, List, ◌++◌, ℤ, length, take, drop}
-use Rattle.std.proofs.Common.{sym, ap, ◌∙◌, rules, arith, length-append}
-use Rattle.std.proofs.Math.Seq.{length-take-le}
+use Rattle.std.proofs.Common.{sym, ap, ◌∙◌, rules, arith, length-append, ◌≡◌, refl, ℕ, ◌+◌, ◌-◌, ◌*◌, ◌≤◌, List, ◌++◌, ℤ, length, take, drop, length-take-le}
 use Rattle.pitch_settings.specs.declared.Settings.{Settings}
 use Rattle.pitch_settings.specs.Settings.{frame_length, longest_frame, hop_length}
 use Rattle.pitch_settings.specs.SettingsLaws.{Accepted as Sized, accepted_settings}

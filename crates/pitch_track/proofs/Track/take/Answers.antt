@@ -1,6 +1,5 @@
 -- `Track::take` meets its contract: a refusal is the first case of `deliver_call`, and any other delivery the second.
-use Rattle.std.specs.Prelude.{◌≡◌, Result, Err, ℕ, List, ℤ}
-use Rattle.std.proofs.Common.{w32, SFits, sym, ap, ◌∙◌, rules}
+use Rattle.std.proofs.Common.{w32, SFits, sym, ap, ◌∙◌, rules, ◌≡◌, Result, Err, ℕ, List, ℤ}
 use Rattle.zint.specs.ReadLaws.{r_var}
 use Rattle.refusals.specs.Refusals.{refusal_number, told}
 use Rattle.refusals.specs.RefusalsLaws.{refused_positive}

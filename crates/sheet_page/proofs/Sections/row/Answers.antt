@@ -1,13 +1,6 @@
 -- `Sections::row` meets its contract.
-use mathlib.Core.Path.{◌≡◌, sym, ap, ap₂, ◌∙◌}
-use Prim.Native.Nat.{ℕ, ◌+◌, ◌*◌, ◌≤◌, ◌<◌}
-use native.Mathlib.Omega.{arith}
-use lib.IntN.{ℤ, pos}
-use lib.ListN.{get_or, length}
-use mir.Syntax.{w8, w32}
-use Rattle.std.proofs.Common.{rules, Fits}
-use mir.Val.{to_z, of_z}
-use mir.ValLaws.{to_z_pos}
+use Rattle.std.proofs.Common.{rules, Fits, ◌≡◌, sym, ap, ap₂, ◌∙◌, ℕ, ◌+◌, ◌*◌, ◌≤◌, ◌<◌, arith, ℤ, pos, get_or, length, w8, w32, to_z, of_z}
+use Rattle.std.proofs.lemmas.Int.{to_z_pos}
 use Rattle.zint.specs.ReadLaws.{r_got}
 use Rattle.pitch_settings.specs.declared.Settings.{Settings}
 use Rattle.pitch_table.specs.Row.{most_frames}

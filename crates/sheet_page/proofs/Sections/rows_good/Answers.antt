@@ -1,6 +1,5 @@
 -- `Sections::rows_good` meets its contract.
-use Rattle.std.proofs.Common.{◌≡◌, true, ap, arith, ℕ}
-use borrow.Author.Count.{below_more}
+use Rattle.std.proofs.Common.{◌≡◌, true, ap, arith, ℕ, below_more}
 use Rattle.sheet_page.specs.Page.{row_in, readable}
 use Rattle.sheet_page.proofs.Sections.rows_good.Goals as goal
 

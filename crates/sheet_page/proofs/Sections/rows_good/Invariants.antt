@@ -1,7 +1,5 @@
 -- The invariants of `Sections::rows_good`.
-use mathlib.Core.Path.{◌≡◌}
-use mathlib.Core.Bool.{true}
-use Prim.Native.Nat.{ℕ, ◌≤◌, ◌<◌}
+use Rattle.std.proofs.Common.{◌≡◌, true, ℕ, ◌≤◌, ◌<◌}
 use Rattle.sheet_page.specs.Page.{voiced_before, row_in, readable}
 use Rattle.sheet_page.proofs.Sections.rows_good.Given as goal
 

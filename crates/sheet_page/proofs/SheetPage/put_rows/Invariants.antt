@@ -1,7 +1,6 @@
 -- The invariants of `SheetPage::put_rows`.
-use mathlib.Core.Path.{◌≡◌}
-use Prim.Native.Nat.{◌≤◌}
-use lib.Seq.{sets}
+use Rattle.std.proofs.Common.{◌≡◌, ◌≤◌}
+use Rattle.std.proofs.Math.Seq.{sets}
 use Rattle.sheet_page.specs.Page.{voiced_before, numbers_of}
 use Rattle.sheet_page.specs.PageLaws.{first_rows}
 use Rattle.sheet_page.proofs.SheetPage.put_rows.Given as goal

@@ -1,7 +1,5 @@
 -- `Section::has_entry` meets its contract: the bits of a verdict are compared with 0.
-use Rattle.std.proofs.Common.{◌≡◌, refl, rules, ⊎_elim, sym, ◌∙◌, ap, SFits, of_z, to_z}
-use Rattle.std.specs.Prelude.{◌==◌, ℤ, pos}
-use Rattle.std.specs.Int.{w32}
+use Rattle.std.proofs.Common.{◌≡◌, refl, rules, ⊎_elim, sym, ◌∙◌, ap, SFits, of_z, to_z, ◌==◌, ℤ, pos, w32}
 use Rattle.std.proofs.lemmas.Bool.Decides.{same_from_decides, Decides-eqb}
 use Rattle.zint.specs.Equal.{eq_z}
 use Rattle.zint.specs.EqualLaws.{eq_z_yes, eq_z_true}

@@ -1,7 +1,5 @@
 -- `Section::put_row` meets its contract: an entry is as long as its section says.
-use Rattle.std.proofs.Common.{◌≡◌, true, rules, sym, ◌∙◌, ap, arith, ◌+◌, ◌≤◌, length, of_z, to_z}
-use Rattle.std.specs.Prelude.{nat_abs}
-use Rattle.std.specs.Int.{w32}
+use Rattle.std.proofs.Common.{◌≡◌, true, rules, sym, ◌∙◌, ap, arith, ◌+◌, ◌≤◌, length, of_z, to_z, nat_abs, w32}
 use Rattle.sheet_sections.specs.declared.Section.{Section}
 use Rattle.sheet_sections.specs.Sheet.{entry_bytes, has_entry}
 use Rattle.sheet_sections.specs.RowBytesLaws.{row_bytes-length, pair_voiced, correlation_voiced, put_no_entry, put_verdict, put_pair, put_correlation}

@@ -1,6 +1,5 @@
 -- `Sheet::put` meets its contract: the sections are written one after the other.
-use Rattle.std.proofs.Common.{arith, length-append}
-use Rattle.std.specs.Prelude.{◌+◌, ◌≤◌, length}
+use Rattle.std.proofs.Common.{arith, length-append, ◌+◌, ◌≤◌, length}
 use Rattle.lists.specs.PutLaws.{put_then}
 use Rattle.sheet_sections.specs.declared.Section.TheVariants.{Verdicts, Pairs, Correlations}
 use Rattle.sheet_sections.specs.Sheet.{frames_at, section_entries, section, sheet, rows_of}

@@ -1,6 +1,5 @@
 -- `Sheet::put_section` meets its contract: entry after entry the section grows, and what is left of the page is enough for the rest.
-use Rattle.std.proofs.Common.{◌≡◌, ap, arith, length-append}
-use Rattle.std.specs.Prelude.{◌+◌, ◌≤◌, length}
+use Rattle.std.proofs.Common.{◌≡◌, ap, arith, length-append, ◌+◌, ◌≤◌, length}
 use Rattle.lists.specs.Fill.{tabulate}
 use Rattle.lists.specs.Put.{Put}
 use Rattle.lists.specs.PutLaws.{put_none, put_then}

@@ -1,8 +1,8 @@
 -- The invariants of `put_section`.
+use Rattle.std.proofs.Common.{◌+◌, ◌≤◌}
 use Rattle.lists.specs.Put.{Put}
 use Rattle.sheet_sections.specs.Sheet.{count_bytes, rows_of}
 use Rattle.sheet_sections.specs.SheetLaws.{rows_bytes}
-use Prim.Native.Nat.{◌+◌, ◌≤◌}
 use Rattle.sheet_sections.proofs.Sheet.put_section.Given as goal
 
 abbrev pub invariant-loop-i : goal.invariant-loop-i

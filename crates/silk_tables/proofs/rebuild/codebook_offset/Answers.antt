@@ -1,8 +1,5 @@
 -- `silk_tables::rebuild::codebook_offset` meets its contract: a lookup in the book that the rate chooses.
-use mathlib.Core.Path.{sym, ◌∙◌}
-use native.Mathlib.Omega.{arith}
-use lib.Dec.{lit≤}
-use mir.Syntax.{w32}
+use Rattle.std.proofs.Common.{sym, ◌∙◌, arith, lit≤, w32}
 use Rattle.zint.specs.ReadLaws.{r_got}
 use Rattle.silk_tables.proofs.TableLaws.{settings_of}
 use Rattle.silk_tables.specs.ContourLaws.{entries_8, entries_other, book_8, book_other}

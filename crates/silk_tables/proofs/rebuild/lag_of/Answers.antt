@@ -1,11 +1,6 @@
 -- `silk_tables::rebuild::lag_of` meets its contract: the sum is read step by step, and the two tests are those of the hold.
-use mathlib.Core.Path.{ap, ◌∙◌}
-use native.Mathlib.Omega.{arith}
-use lib.IntN.{pos, ◌+ℤ◌}
-use mir.Syntax.{w32}
-use mir.Val.{to_z, of_z}
+use Rattle.std.proofs.Common.{ap, ◌∙◌, arith, pos, ◌+ℤ◌, w32, to_z, of_z, ◌≤ℤ◌}
 use Rattle.std.specs.Int.{int_min, int_max}
-use Rattle.std.specs.Prelude.{◌≤ℤ◌}
 use Rattle.zint.specs.ClampLaws.{clamp_of_std}
 use Rattle.zint.specs.DiffLaws.{le_of}
 use Rattle.zint.specs.ReadLaws.{Reads, r_nat, r_as, r_var, r_got, r_add, f_add}

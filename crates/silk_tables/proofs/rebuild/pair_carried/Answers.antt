@@ -1,10 +1,6 @@
 -- `silk_tables::rebuild::pair_carried` meets its contract: each `&&` of the code is one of the definition.
-use mathlib.Core.Path.{◌≡◌, sym, ap, ap₂, ◌∙◌}
-use mathlib.Core.Bool.{◌&&◌}
-use native.Mathlib.Omega.{arith}
-use lib.IntN.{pos}
-use lib.Signed.{le_z, lt_z}
-use mir.Syntax.{w32}
+use Rattle.std.proofs.Common.{◌≡◌, sym, ap, ap₂, ◌∙◌, ◌&&◌, arith, pos, w32}
+use Rattle.std.specs.Int.Signed.{le_z, lt_z}
 use Rattle.zint.specs.ReadLaws.{r_nat, r_as, r_var}
 use Rattle.zint.specs.BoolLaws.{and_yes, and_no}
 use Rattle.silk_tables.specs.Tables.{greatest_index, contours}

@@ -1,15 +1,5 @@
 -- `silk_tables::rebuild::rebuilt_lag` meets its contract: each refusal is one test of the definition, and past them the pair has an entry in a book.
-use mathlib.Core.Path.{◌≡◌, refl, sym, ap, ap₂, ◌∙◌, subst}
-use mathlib.Core.Bool.{Bool, ◌&&◌, cond}
-use Rattle.std.specs.Prelude.{Option, Some, None}
-use mathlib.Core.List.{[], ◌∷◌}
-use Prim.Native.Nat.{ℕ}
-use native.Mathlib.Omega.{arith}
-use borrow.Author.Tests.{lt-ltb, le-ltb, eq-eqb, ne_eqb}
-use lib.Dec.{eqb, ltb}
-use lib.IntN.{ℤ, pos, nat_abs}
-use mir.Syntax.{w32, w64}
-use mir.Val.{SFits, to_z, of_z}
+use Rattle.std.proofs.Common.{◌≡◌, refl, sym, ap, ap₂, ◌∙◌, subst, Bool, ◌&&◌, cond, Option, Some, None, [], ◌∷◌, ℕ, arith, lt-ltb, le-ltb, eq-eqb, ne_eqb, eqb, ltb, ℤ, pos, nat_abs, w32, w64, SFits, to_z, of_z}
 use Rattle.answers.specs.Answer.{answer_numbers}
 use Rattle.zint.specs.BoundLaws.{fits_abs}
 use Rattle.zint.specs.ReadLaws.{r_var, r_got, as_unsigned}

@@ -1,7 +1,5 @@
 -- `stage1::quotients` meets its contract. The invariant: no divisor below i is zero, and the array is filled below i.
-use Rattle.std.proofs.Common.{Option, ◌≡◌, sym, ap, ap₂, ◌∙◌, false, List, ℕ, ◌-◌, ℤ, pos, get_or, replicate, arith, below_more, SFits}
-use Rattle.std.specs.Int.{w16, w32}
-use mir.Val.{to_z, of_z}
+use Rattle.std.proofs.Common.{Option, ◌≡◌, sym, ap, ap₂, ◌∙◌, false, List, ℕ, ◌-◌, ℤ, pos, get_or, replicate, arith, below_more, SFits, w16, w32, to_z, of_z}
 use Rattle.zint.specs.Wrap.{wrap}
 use Rattle.zint.specs.ReadLaws.{r_var, r_got}
 use Rattle.lists.specs.Signal.{sample}

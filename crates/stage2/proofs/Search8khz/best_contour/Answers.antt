@@ -1,9 +1,5 @@
 -- `stage2::Search8khz::best_contour` meets its contract.
-use mathlib.Core.Path.{◌≡◌, sym, subst, subst₂}
-use Prim.Native.Nat.{ℕ, ◌+◌}
-use native.Mathlib.Omega.{arith}
-use mir.Syntax.{w32}
-use mir.Val.{to_z}
+use Rattle.std.proofs.Common.{◌≡◌, sym, subst, subst₂, ℕ, ◌+◌, arith, w32, to_z}
 use Rattle.zint.specs.ReadLaws.{r_got}
 use Rattle.zint.specs.TestLaws.{lt_true, lt_false}
 use Rattle.stage2.specs.Search.{at2}

@@ -1,5 +1,5 @@
 -- The invariants of `best_contour`.
-use Prim.Native.Nat.{◌≤◌}
+use Rattle.std.proofs.Common.{◌≤◌}
 use Rattle.stage2.specs.Search.{at2}
 use Rattle.stage2.specs.SearchLaws.{Leads}
 use Rattle.stage2.proofs.Search8khz.best_contour.Given as goal

@@ -1,10 +1,5 @@
 -- `stage2::Search8khz::contour_sum` meets its contract.
-use mathlib.Core.Path.{◌≡◌, refl, sym, ap, ap₂, ◌∙◌}
-use Prim.Native.Nat.{ℕ, ◌≤◌, ◌<◌}
-use native.Mathlib.Omega.{arith}
-use lib.IntN.{ℤ, pos, nat_abs, ◌+ℤ◌}
-use mir.Syntax.{w16, w32, w64}
-use mir.Val.{SFits, to_z, of_z}
+use Rattle.std.proofs.Common.{◌≡◌, refl, sym, ap, ap₂, ◌∙◌, ℕ, ◌≤◌, ◌<◌, arith, ℤ, pos, nat_abs, ◌+ℤ◌, w16, w32, w64, SFits, to_z, of_z, rules}
 use Rattle.zint.specs.BoundLaws.{abs_add, abs_fits}
 use Rattle.zint.specs.ReadLaws.{Reads, r_var, r_nat, r_got, r_as, r_add, wide_32, f_add, fit_as, as_unsigned}
 use Rattle.silk_tables.specs.Tables.{offset2, moved_lag2}
@@ -13,7 +8,6 @@ use Rattle.stage2.specs.Scores.{sum, contour_sum}
 use Rattle.stage2.specs.ScoreLaws.{sum_next, sum_small, moved_in}
 use Rattle.stage2.specs.Search.{at2}
 use Rattle.stage2.specs.SearchLaws.{two_or_four}
-use borrow.Author.Rules.{rules}
 use Rattle.stage2.proofs.Search8khz.contour_sum.Goals as goal
 
 pub loop-i-init : goal.loop-i-init

@@ -1,6 +1,5 @@
 -- The invariants of `contour_sum`.
-use mathlib.Core.Path.{◌≡◌}
-use Prim.Native.Nat.{ℕ, ◌≤◌}
+use Rattle.std.proofs.Common.{◌≡◌, ℕ, ◌≤◌}
 use Rattle.silk_tables.specs.Tables.{moved_lag2}
 use Rattle.stage2.specs.Scores.{sum}
 use Rattle.stage2.specs.Search.{at2}

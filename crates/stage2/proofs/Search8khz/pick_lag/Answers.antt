@@ -1,7 +1,5 @@
 -- `stage2::Search8khz::pick_lag` meets its contract.
-use mathlib.Core.Path.{◌≡◌, sym, ap, ◌∙◌, subst, subst₂}
-use Prim.Native.Nat.{ℕ, ◌+◌, ◌-◌}
-use native.Mathlib.Omega.{arith}
+use Rattle.std.proofs.Common.{◌≡◌, sym, ap, ◌∙◌, subst, subst₂, ℕ, ◌+◌, ◌-◌, arith}
 use Rattle.stage2.specs.Search.{search_in, best_with}
 use Rattle.stage2.specs.SearchLaws.{AfterLags, after_none, after_next, after_all}
 use Rattle.stage2.proofs.Search8khz.pick_lag.Goals as goal

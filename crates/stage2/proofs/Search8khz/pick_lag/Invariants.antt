@@ -1,5 +1,5 @@
 -- The invariants of `pick_lag`.
-use Prim.Native.Nat.{◌-◌, ◌≤◌}
+use Rattle.std.proofs.Common.{◌-◌, ◌≤◌}
 use Rattle.stage2.specs.Search.{search_in}
 use Rattle.stage2.specs.SearchLaws.{AfterLags}
 use Rattle.stage2.proofs.Search8khz.pick_lag.Given as goal

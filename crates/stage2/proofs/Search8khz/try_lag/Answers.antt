@@ -1,9 +1,5 @@
 -- `stage2::Search8khz::try_lag` meets its contract.
-use mathlib.Core.Path.{◌≡◌, sym, ap, ◌∙◌}
-use Prim.Native.Nat.{ℕ}
-use lib.IntN.{ℤ}
-use mir.Syntax.{w32}
-use mir.Val.{to_z, of_z}
+use Rattle.std.proofs.Common.{◌≡◌, sym, ap, ◌∙◌, ℕ, ℤ, w32, to_z, of_z}
 use Rattle.zint.specs.ReadLaws.{r_got}
 use Rattle.stage2.specs.declared.Along.{Along}
 use Rattle.stage2.specs.Scores.{best_contour, lag_sum, Search2, biased2, score2}

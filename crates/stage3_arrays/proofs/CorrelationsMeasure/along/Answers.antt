@@ -1,14 +1,6 @@
 -- `stage3_arrays::CorrelationsMeasure::along` meets its contract: the kernel counts the lags from the last, and they are turned round.
-use mathlib.Core.Path.{◌≡◌, sym, ap, ap₂, ◌∙◌}
-use mathlib.Core.List.{List, ◌++◌, reverse}
-use Prim.Native.Nat.{ℕ, ◌+◌, ◌-◌}
-use lib.IntN.{ℤ, pos}
-use lib.ListN.{get_or, drop, replicate}
-use lib.Seq.{drop-drop}
-use mir.Syntax.{w32}
-use native.Mathlib.Omega.{arith}
-use Rattle.std.specs.Prelude.{take}
-use Rattle.std.proofs.lemmas.List.{drop_at, get_or-reverse, length-reverse}
+use Rattle.std.proofs.Common.{◌≡◌, sym, ap, ap₂, ◌∙◌, List, ◌++◌, reverse, ℕ, ◌+◌, ◌-◌, ℤ, pos, get_or, drop, replicate, drop-drop, w32, arith, take, drop_at}
+use Rattle.std.proofs.lemmas.List.{get_or-reverse, length-reverse}
 use Rattle.zint.specs.Wrap.{wrap}
 use Rattle.lists.specs.Fill.{tabulate, filled}
 use Rattle.lists.specs.FillLaws.{length_tabulate, get_d_tabulate, tabulate_is, take_filled, filled_ext, tail_part}

@@ -1,17 +1,11 @@
 -- `stage3_arrays::EnergiesMeasure::along` meets its contract. The invariant: the array is filled below i, and the energy is the last one stored.
+use Rattle.std.proofs.Common.{◌≡◌, sym, ap, ◌∙◌, ℕ, ◌+◌, ◌-◌, pos, get_or, replicate, to_z, of_z, w16, w32, arith}
 use Rattle.stage3_arrays.specs.ArrayLaws.{running_at}
-use mathlib.Core.Path.{◌≡◌, sym, ap, ◌∙◌}
-use Prim.Native.Nat.{ℕ, ◌+◌, ◌-◌}
-use lib.IntN.{pos}
-use lib.ListN.{get_or, replicate}
-use mir.Val.{to_z, of_z}
 use Rattle.zint.specs.RuleLaws.{zneeds}
-use mir.Syntax.{w16, w32}
 use Rattle.zint.specs.ReadLaws.{r_got}
 use Rattle.lists.specs.Fill.{filled}
 use Rattle.lists.specs.FillLaws.{filled_none, filled_turn}
 use Rattle.stage3_arrays.specs.Arrays.{running, step}
-use native.Mathlib.Omega.{arith}
 use Rattle.stage3_arrays.proofs.EnergiesMeasure.along.Goals as goal
 
 pub loop-i-init : goal.loop-i-init

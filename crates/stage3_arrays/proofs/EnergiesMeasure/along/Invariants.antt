@@ -1,8 +1,5 @@
 -- The invariants of `EnergiesMeasure::along`.
-use mathlib.Core.Path.{◌≡◌}
-use Prim.Native.Nat.{◌-◌, ◌≤◌}
-use lib.IntN.{pos}
-use lib.ListN.{replicate}
+use Rattle.std.proofs.Common.{◌≡◌, ◌-◌, ◌≤◌, pos, replicate}
 use Rattle.lists.specs.Fill.{filled}
 use Rattle.stage3_arrays.specs.Arrays.{running}
 use Rattle.stage3_arrays.proofs.EnergiesMeasure.along.Given as goal

@@ -1,6 +1,5 @@
 -- `stage3_arrays::FrameAtLag::lags` meets its contract: the range is the subframe's, which lies in the frame.
-use mathlib.Core.Path.{◌≡◌}
-use Prim.Native.Nat.{ℕ, ◌+◌, ◌*◌}
+use Rattle.std.proofs.Common.{◌≡◌, ℕ, ◌+◌, ◌*◌}
 use Rattle.silk_tables.specs.Tables.{first_lag, range_count}
 use Rattle.stage3_arrays.specs.Arrays.{target3, lag_range}
 use Rattle.stage3_arrays.specs.ArrayLaws.{range_in}

@@ -1,6 +1,5 @@
 -- `Delivery::refusal_number` meets its contract: what speaks against the delivery, by the limit's own number.
-use Rattle.std.proofs.Common.{◌≡◌, ◌∙◌, ℕ, sym, ap}
-use Rattle.std.specs.Prelude.{Err}
+use Rattle.std.proofs.Common.{◌≡◌, ◌∙◌, ℕ, sym, ap, Err}
 use Rattle.track_settings.specs.declared.AnalysedTrack.{AnalysedTrack}
 use Rattle.track_refusal.specs.declared.Objection.{Objection}
 use Rattle.track_refusal.specs.Refusal.{number_by}

@@ -1,7 +1,5 @@
 -- `Pair::lag` meets its contract.
-use Rattle.std.proofs.Common.{sym, ap₂, ◌∙◌, arith, rules, SFits}
-use Rattle.std.specs.Prelude.{ℤ, nat_abs}
-use Rattle.std.specs.Int.{w32, w64}
+use Rattle.std.proofs.Common.{sym, ap₂, ◌∙◌, arith, rules, SFits, ℤ, nat_abs, w32, w64}
 use Rattle.zint.specs.BoundLaws.{fits_abs}
 use Rattle.zint.specs.ReadLaws.{r_var, r_got, as_unsigned}
 use Rattle.silk_tables.specs.Rebuild.{rebuilt}

@@ -1,8 +1,5 @@
 -- `Analysis::put_lags` meets its contract.
-use Rattle.std.proofs.Common.{ap₂, ◌∙◌, arith}
-use Rattle.std.specs.Prelude.{List, ℤ}
-use Rattle.std.specs.Int.{w32}
-use Rattle.std.proofs.Math.ListN.{set}
+use Rattle.std.proofs.Common.{ap₂, ◌∙◌, arith, List, ℤ, w32, set}
 use Rattle.zint.specs.ReadLaws.{r_got}
 use Rattle.lists.specs.FillLaws.{filled_none, filled_next}
 use Rattle.silk_pitch_analysis.specs.Frame.{lag_of}

@@ -1,11 +1,5 @@
 -- `silk_tables::codebook::Codebook::lag_count` meets its contract.
-use mathlib.Core.Path.{◌≡◌, sym, ap₂, ◌∙◌, subst}
-use Prim.Native.Nat.{ℕ, ◌+◌, ◌<◌}
-use lib.IntN.{ℤ, pos, nat_abs, ◌-ℤ◌}
-use lib.Signed.{◌≤ℤ◌}
-use mir.Syntax.{w32}
-use mir.Val.{to_z, of_z}
-use native.Mathlib.Omega.{arith}
+use Rattle.std.proofs.Common.{◌≡◌, sym, ap₂, ◌∙◌, subst, ℕ, ◌+◌, ◌<◌, ℤ, pos, nat_abs, ◌-ℤ◌, ◌≤ℤ◌, w32, to_z, of_z, arith}
 use Rattle.zint.specs.BoundLaws.{fits_abs}
 use Rattle.zint.specs.ReadLaws.{Reads, r_is, f_sub}
 use Rattle.silk_tables.specs.Tables.{TableSettings, range_low, range_high, range_count}

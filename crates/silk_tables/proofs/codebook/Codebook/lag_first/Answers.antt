@@ -1,10 +1,5 @@
 -- `silk_tables::codebook::Codebook::lag_first` meets its contract.
-use mathlib.Core.Path.{◌≡◌, ap, ◌∙◌}
-use Prim.Native.Nat.{ℕ, ◌<◌, ◌≤◌}
-use lib.IntN.{ℤ, pos, nat_abs, ◌+ℤ◌}
-use mir.Syntax.{w32, w64}
-use mir.Val.{to_z, of_z}
-use native.Mathlib.Omega.{arith}
+use Rattle.std.proofs.Common.{◌≡◌, ap, ◌∙◌, ℕ, ◌<◌, ◌≤◌, ℤ, pos, nat_abs, ◌+ℤ◌, w32, w64, to_z, of_z, arith}
 use Rattle.zint.specs.BoundLaws.{fits_abs}
 use Rattle.zint.specs.ShiftLaws.{nonneg_abs}
 use Rattle.zint.specs.ReadLaws.{Reads, r_nat, r_is, r_add, f_add, as_unsigned}

@@ -1,10 +1,5 @@
 -- `silk_tables::codebook::Codebook::row` meets its contract: each row of either table is the offsets of its contours.
-use mathlib.Core.Path.{◌≡◌, refl, sym, ap, ◌∙◌}
-use mathlib.Core.List.{List, [], ◌++◌}
-use Prim.Native.Nat.{ℕ, zero, suc, ◌<◌}
-use lib.IntN.{ℤ, pos}
-use lib.ListN.{get_or, replicate}
-use native.Mathlib.Omega.{arith}
+use Rattle.std.proofs.Common.{◌≡◌, refl, sym, ap, ◌∙◌, List, [], ◌++◌, ℕ, zero, suc, ◌<◌, ℤ, pos, get_or, replicate, arith}
 use Rattle.lists.specs.Fill.{tabulate}
 use Rattle.silk_tables.specs.Tables.{offset, cb_lags_stage3, cb_lags_stage3_10_ms}
 use Rattle.silk_tables.proofs.TableLaws.{two_of}

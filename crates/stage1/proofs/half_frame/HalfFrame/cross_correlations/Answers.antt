@@ -1,10 +1,5 @@
 -- `stage1::HalfFrame::cross_correlations` meets its contract: the kernel's list starts at the last lag.
-use mathlib.Core.Path.{ap, ap₂, ◌∙◌}
-use mathlib.Core.List.{List}
-use Prim.Native.Nat.{ℕ, ◌-◌}
-use lib.IntN.{ℤ, pos}
-use lib.ListN.{drop, replicate}
-use mir.Syntax.{w32}
+use Rattle.std.proofs.Common.{ap, ap₂, ◌∙◌, List, ℕ, ◌-◌, ℤ, pos, drop, replicate, w32}
 use Rattle.zint.specs.Wrap.{wrap}
 use Rattle.lists.specs.Fill.{filled}
 use Rattle.lists.specs.FillLaws.{tail_part}

@@ -1,9 +1,5 @@
 -- `stage1::HalfFrame::first_normalizer` meets its contract: three sums that wrap are one.
-use mathlib.Core.Path.{ap, ◌∙◌}
-use Prim.Native.Nat.{ℕ, ◌-◌}
-use lib.IntN.{ℤ, ◌+ℤ◌}
-use lib.ListN.{drop}
-use mir.Syntax.{w32}
+use Rattle.std.proofs.Common.{ap, ◌∙◌, ℕ, ◌-◌, ℤ, ◌+ℤ◌, drop, w32}
 use Rattle.zint.specs.Wrap.{wrap}
 use Rattle.zint.specs.ReadLaws.{r_got, r_lit, r_call2}
 use Rattle.silk_macros.specs.Macros.{smulbb}

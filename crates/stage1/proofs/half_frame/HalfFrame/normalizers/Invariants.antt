@@ -1,8 +1,5 @@
 -- The invariants of `HalfFrame::normalizers`.
-use mathlib.Core.Path.{◌≡◌}
-use Prim.Native.Nat.{ℕ, ◌+◌, ◌-◌, ◌*◌, ◌≤◌}
-use lib.IntN.{pos}
-use lib.ListN.{replicate}
+use Rattle.std.proofs.Common.{◌≡◌, ℕ, ◌+◌, ◌-◌, ◌*◌, ◌≤◌, pos, replicate}
 use Rattle.lists.specs.Fill.{filled}
 use Rattle.stage1.specs.Stage1.{divisor1}
 use Rattle.stage1.proofs.half_frame.HalfFrame.normalizers.Given as goal

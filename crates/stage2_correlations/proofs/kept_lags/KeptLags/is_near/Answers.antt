@@ -1,8 +1,6 @@
 -- `stage2_correlations::KeptLags::is_near` meets its contract.
-use Rattle.std.proofs.Common.{◌≡◌, sym, arith, rules, length, ◌≤◌, ◌<◌, ◌*◌, ◌+◌, ℕ, List, Bool, true, false}
-use borrow.Author.Tests.{tests}
-use Rattle.std.specs.Bool.{MatchBool}
-use Rattle.std.specs.List.{AllWithin, HoldsAt}
+use Rattle.std.proofs.Common.{◌≡◌, sym, arith, rules, length, ◌≤◌, ◌<◌, ◌*◌, ◌+◌, ℕ, List, Bool, true, false, tests, MatchBool, HoldsAt}
+use Rattle.std.specs.List.{AllWithin}
 use Rattle.std.proofs.lemmas.List.{get_or_default}
 use Rattle.std.proofs.lemmas.Iterator.{YieldsList-from_slice, cases_from_any}
 use Rattle.std.proofs.lemmas.Iterator.Adapters.{serves_from_places}

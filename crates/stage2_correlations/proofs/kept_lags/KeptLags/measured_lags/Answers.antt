@@ -1,10 +1,5 @@
 -- `stage2_correlations::KeptLags::measured_lags` meets its contract.
-use mathlib.Core.Path.{◌≡◌, ap, ◌∙◌}
-use mathlib.Core.Bool.{false}
-use Prim.Native.Nat.{ℕ, ◌+◌}
-use lib.Dec.{lit≤}
-use lib.ListN.{replicate}
-use native.Mathlib.Omega.{arith}
+use Rattle.std.proofs.Common.{◌≡◌, ap, ◌∙◌, false, ℕ, ◌+◌, lit≤, replicate, arith}
 use Rattle.lists.specs.Fill.{filled}
 use Rattle.lists.specs.FillLaws.{filled_none, filled_turn, filled_all}
 use Rattle.stage2_correlations.specs.Marks.{measured}

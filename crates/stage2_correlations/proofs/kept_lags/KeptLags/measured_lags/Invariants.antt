@@ -1,8 +1,5 @@
 -- The invariants of `measured_lags`.
-use mathlib.Core.Path.{◌≡◌}
-use mathlib.Core.Bool.{false}
-use Prim.Native.Nat.{ℕ, ◌+◌, ◌≤◌}
-use lib.ListN.{replicate}
+use Rattle.std.proofs.Common.{◌≡◌, false, ℕ, ◌+◌, ◌≤◌, replicate}
 use Rattle.lists.specs.Fill.{filled}
 use Rattle.stage2_correlations.specs.Marks.{measured}
 use Rattle.stage2_correlations.proofs.kept_lags.KeptLags.measured_lags.Given as goal

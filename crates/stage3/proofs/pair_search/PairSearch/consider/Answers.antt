@@ -1,13 +1,6 @@
 -- `stage3::PairSearch::consider` meets its contract, way by way.
-use Rattle.std.specs.Prelude.{Some, Option}
-use mathlib.Core.Path.{◌≡◌, sym, ap, ap₂, ◌∙◌}
-use mathlib.Core.Bool.{Bool, true, false}
-use lib.IntN.{ℤ, pos}
-use Prim.Native.Nat.{ℕ, ◌<◌, ◌^◌}
-use native.Mathlib.Omega.{arith}
-use lib.Signed.{mag, lt_z, ◌≤ℤ◌, le_z_yes, lt_z_yes}
-use mir.Syntax.{w32}
-use mir.Val.{SFits, to_z, of_z}
+use Rattle.std.proofs.Common.{Some, Option, ◌≡◌, sym, ap, ap₂, ◌∙◌, Bool, true, false, ℤ, pos, ℕ, ◌<◌, ◌^◌, arith, ◌≤ℤ◌, w32, SFits, to_z, of_z}
+use Rattle.std.specs.Int.Signed.{mag, lt_z, le_z_yes, lt_z_yes}
 use Rattle.zint.specs.ReadLaws.{r_var, r_got, r_holds, t_above, via_lt}
 use Rattle.silk_tables.proofs.TableLaws.{in_use_bounds}
 use Rattle.stage3.specs.Pick.{quotient_of, biased}

@@ -1,6 +1,5 @@
 -- `stage3::PairSearch::end_lag` meets its contract.
-use mathlib.Core.Path.{ap, ◌∙◌}
-use Prim.Native.Nat.{◌+◌, min}
+use Rattle.std.proofs.Common.{ap, ◌∙◌, ◌+◌, min}
 use Rattle.stage3.specs.Pick.{last_tried}
 use Rattle.stage3.proofs.pair_search.PairSearch.end_lag.Goals as goal
 

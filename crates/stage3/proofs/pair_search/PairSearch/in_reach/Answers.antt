@@ -1,16 +1,11 @@
 -- `stage3::PairSearch::in_reach` meets its contract.
-use mathlib.Core.Path.{◌≡◌, ap, ap₂}
-use Prim.Native.Nat.{ℕ, ◌<◌, ◌≤◌}
-use lib.IntN.{pos, ◌+ℤ◌}
-use lib.Signed.{le_z}
-use mir.Syntax.{w32}
-use mir.Val.{SFits}
+use Rattle.std.proofs.Common.{◌≡◌, ap, ap₂, ℕ, ◌<◌, ◌≤◌, pos, ◌+ℤ◌, w32, SFits, arith}
+use Rattle.std.specs.Int.Signed.{le_z}
 use Rattle.zint.specs.ReadLaws.{Reads, r_nat, r_as, r_got, r_add, f_add}
 use Rattle.silk_tables.specs.Tables.{in_use, offset, greatest_lag}
 use Rattle.silk_tables.specs.ContourLaws.{greatest_lag_le}
 use Rattle.stage3.specs.PickLaws.{reach_fits}
 use Rattle.stage3.specs.declared.pair_search.PairSearch.{PairSearch}
-use native.Mathlib.Omega.{arith}
 use Rattle.stage3.proofs.pair_search.PairSearch.in_reach.Goals as goal
 
 -- the lag is small, and so is the greatest

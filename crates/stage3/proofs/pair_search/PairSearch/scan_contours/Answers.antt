@@ -1,11 +1,5 @@
 -- `stage3::PairSearch::scan_contours` meets its contract. The invariant: what is known after the pairs of the earlier lags and of the contours below j.
-use Rattle.std.specs.Prelude.{None}
-use mathlib.Core.Path.{◌≡◌, sym, ap, ◌∙◌, subst, subst₂}
-use Prim.Native.Nat.{ℕ, ◌+◌, ◌-◌, ◌*◌, ◌<◌, ◌≤◌}
-use lib.IntN.{ℤ, pos}
-use lib.Signed.{◌≤ℤ◌}
-use mir.Syntax.{w32}
-use mir.Val.{to_z, of_z}
+use Rattle.std.proofs.Common.{None, ◌≡◌, sym, ap, ◌∙◌, subst, subst₂, ℕ, ◌+◌, ◌-◌, ◌*◌, ◌<◌, ◌≤◌, ℤ, pos, ◌≤ℤ◌, w32, to_z, of_z, arith}
 use Rattle.zint.specs.ReadLaws.{r_var, r_got, r_as, r_holds}
 use Rattle.silk_tables.specs.Tables.{in_use}
 use Rattle.silk_tables.proofs.TableLaws.{in_use_bounds}
@@ -15,7 +9,6 @@ use Rattle.stage3.specs.PickLaws.{bias_low, bias_high, few_lags, last_le, row_en
 use Rattle.stage3.specs.Search.{with_pair, at3, summed, array_choice, BestOfFirst, AfterFirst}
 use Rattle.stage3.specs.SearchLaws.{searched_turn, stopped_more}
 use Rattle.stage3.specs.declared.pair_search.PairSearch.{PairSearch}
-use native.Mathlib.Omega.{arith}
 use Rattle.stage3.proofs.pair_search.PairSearch.scan_contours.Goals as goal
 use Rattle.stage3.proofs.pair_search.PairSearch.scan_contours.Goals.{After-consider}
 

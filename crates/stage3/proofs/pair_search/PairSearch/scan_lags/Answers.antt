@@ -1,18 +1,13 @@
 -- `stage3::PairSearch::scan_lags` meets its contract. The invariant: what is known after the pairs of the lags below d.
-use mathlib.Core.Path.{◌≡◌, refl, sym, ap, ◌∙◌, subst}
-use Prim.Native.Nat.{ℕ, ◌+◌, ◌-◌, ◌*◌, ◌≤◌}
-use lib.IntN.{ℤ}
+use Rattle.std.proofs.Common.{◌≡◌, refl, sym, ap, ◌∙◌, subst, ℕ, ◌+◌, ◌-◌, ◌*◌, ◌≤◌, ℤ, w32, to_z, of_z, arith}
 use Rattle.zint.specs.Minus.{minus}
 use Rattle.stage3.specs.declared.BestSoFar.{BestSoFar}
-use mir.Syntax.{w32}
-use mir.Val.{to_z, of_z}
 use Rattle.zint.specs.ReadLaws.{r_var}
 use Rattle.silk_tables.specs.Tables.{in_use}
 use Rattle.stage3.specs.Pick.{answer_of, first_tried, last_tried, pick}
 use Rattle.stage3.specs.PickLaws.{last_in, first_le_last}
 use Rattle.stage3.specs.Search.{array_choice, BestOfFirst, AfterFirst}
 use Rattle.stage3.specs.SearchLaws.{searched_start, searched_pick, stopped_pick, pairs_is, pairs_le}
-use native.Mathlib.Omega.{arith}
 use Rattle.stage3.proofs.pair_search.PairSearch.scan_lags.Goals as goal
 
 pub overflow_add-end : goal.overflow_add-end

@@ -1,5 +1,5 @@
 -- What is known after the pairs of the lags below d.
-use Prim.Native.Nat.{◌-◌, ◌*◌}
+use Rattle.std.proofs.Common.{◌-◌, ◌*◌}
 use Rattle.silk_tables.specs.Tables.{in_use}
 use Rattle.stage3.specs.Pick.{first_tried}
 use Rattle.stage3.specs.Search.{array_choice, BestOfFirst}

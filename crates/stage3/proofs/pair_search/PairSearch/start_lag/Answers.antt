@@ -1,6 +1,5 @@
 -- `stage3::PairSearch::start_lag` meets its contract.
-use mathlib.Core.Path.{ap, ◌∙◌}
-use Prim.Native.Nat.{◌-◌, max}
+use Rattle.std.proofs.Common.{ap, ◌∙◌, ◌-◌, max}
 use Rattle.stage3.specs.Pick.{first_tried}
 use Rattle.stage3.proofs.pair_search.PairSearch.start_lag.Goals as goal
 
