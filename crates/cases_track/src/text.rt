@@ -1,24 +1,22 @@
 // An input of the program `track` or `track_options`, by its head, and the text for it. The body: how many bytes of 0 stand after the input, the text's length (4 bytes each), the text, the input.
-ghost use Rattle.std.specs.Prelude.{List, ◌++◌, ◌≡◌, ℕ, ◌<◌, ◌≤◌, length};
-ghost use Rattle.pitch_recording.specs.Recording.{recording_bytes};
+ghost use Rattle.std.specs.Prelude.{List, ◌++◌, ◌≡◌, ℕ, ◌≤◌, length};
 ghost use Rattle.track_text.specs.Program.{track_text};
 ghost use Rattle.cases_track.specs.Text.{Tells, TextAgrees};
 
 use cases_io::u32_at;
-use pitch_recording::{RECORDING_BYTES, RECORDING_NUMBERS, RECORDING_SAMPLES};
+use pitch_recording::{RECORDING_BYTES, RECORDING_NUMBERS, RECORDING_SAMPLES, RecordedInput};
 use recording_head::Head;
 use rooms::room;
 use track_text::{LONGEST_TEXT, track_text};
 
-// Whether the text for this input, with so many bytes after it, is the one told.
-fn is_told(head: Head, input: &[u8], more: usize, told: &[u8]) -> bool
-    requires { 0 < more → recording_bytes ≤ length input.now }
-    ensures { (rest : List ℕ) → length rest ≡ more → Tells result (track_text head (input.now ++ rest) ≡ told.now) }
+// Whether the text for this input is the one told.
+fn is_told(input: RecordedInput, told: &[u8]) -> bool
+    ensures { (rest : List ℕ) → length rest ≡ input.entry.more → Tells result (track_text input.entry.head (input.entry.bytes.now ++ rest) ≡ told.now) }
 {
     let mut samples = room::<i16, RECORDING_SAMPLES>(0);
     let mut table = room::<i32, RECORDING_NUMBERS>(0);
     let mut out = room::<u8, LONGEST_TEXT>(0);
-    let r = track_text(head, input, more, &mut samples, &mut table, &mut out);
+    let r = track_text(input, &mut samples, &mut table, &mut out);
     &out[..r] == told
 }
 
@@ -40,5 +38,10 @@ pub fn agrees(head: Head, body: &[u8], size: usize) -> bool
     let whole = size - from + zeros;
     let len = whole.min(RECORDING_BYTES);
     let end = from + len;
-    is_told(head, &body[from..end], whole - len, &body[8..from])
+    let input = RecordedInput {
+        head,
+        bytes: &body[from..end],
+        more: whole - len,
+    };
+    is_told(input, &body[8..from])
 }

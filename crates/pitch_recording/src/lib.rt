@@ -1,16 +1,19 @@
 // A recording as a program's input: a head that says the settings, and then samples. The input is judged, and its samples are loaded.
 #![tactic(auto)]
 
-ghost use Rattle.std.specs.Prelude.{◌≡◌, List, ◌++◌, ℕ, ◌<◌, ◌≤◌, ltb, pos, length};
+ghost use Rattle.std.specs.Prelude.{◌≡◌, List, ◌++◌, ℕ, ◌≤◌, ltb, pos, length};
 ghost use Rattle.refusals.specs.Refusals.{told, number_told};
 ghost use Rattle.track_settings.specs.TrackSettings.{stored_settings, track_settings_no};
 ghost use Rattle.track_paper.specs.Paper.{F};
-ghost use Rattle.pitch_recording.specs.Recording.{program_frames, recording_samples, recording_bytes, recording_no, take_outcome, take_call};
+ghost use Rattle.pitch_recording.specs.Recording.{program_frames, recording_samples, recording_no, take_outcome, take_call};
 
+mod input;
+
+pub use input::RecordedInput;
 use pitch_input::load_samples;
 use pitch_settings::{Analysed, LONGEST_FRAME};
 use pitch_table::ROW_SIZE;
-use recording_head::{Head, LONGEST_HEAD, head_known, head_settings, head_size};
+use recording_head::{LONGEST_HEAD, head_known, head_settings, head_size};
 use refusals::Refusal;
 use track_settings::TrackSettings;
 
@@ -52,12 +55,12 @@ fn is_long(s: Analysed, n: usize) -> bool
     n >= PROGRAM_FRAMES * s.hop_length() + s.frame_length()
 }
 
-// The refusal, if there is one, of an input that has `more` bytes after these. Where there are more, these are too many for any settings.
-fn check(head: Head, input: &[u8], more: usize) -> Result<(), Refusal>
-    requires { 0 < more → recording_bytes ≤ length input.now }
-    ensures { (rest : List ℕ) → length rest ≡ more → number_told result ≡ recording_no head (input.now ++ rest) }
+// The refusal of an input, if there is one.
+fn check(input: RecordedInput) -> Result<(), Refusal>
+    ensures { (rest : List ℕ) → length rest ≡ input.entry.more → number_told result ≡ recording_no input.entry.head (input.entry.bytes.now ++ rest) }
 {
-    let len = input.len();
+    let RecordedInput { head, bytes, more } = input;
+    let len = bytes.len();
     let size = head_size(head);
     if len < size {
         return Err(Refusal::HalfInput);
@@ -66,7 +69,7 @@ fn check(head: Head, input: &[u8], more: usize) -> Result<(), Refusal>
     if half {
         return Err(Refusal::HalfInput);
     }
-    let track = head_settings(head, input).analysed(0)?;
+    let track = head_settings(head, bytes).analysed(0)?;
     if more > 0 {
         return Err(Refusal::LongTrack);
     }
@@ -74,29 +77,25 @@ fn check(head: Head, input: &[u8], more: usize) -> Result<(), Refusal>
     if long {
         return Err(Refusal::LongTrack);
     }
-    let known = head_known(head, input);
+    let known = head_known(head, bytes);
     if !known {
         return Err(Refusal::Malformed);
     }
     Ok(())
 }
 
-// Judges an input that begins with these bytes and has `more` after them: refusals 10, then 1, 2, 3, then 11 where the second threshold comes from the speech, then 6 over the frames that a
-// program takes, then 9 for options that are not known. An input that is taken leaves its samples in the first places of `samples`; a refusal leaves them all.
-pub fn take_recording(
-    head: Head,
-    input: &[u8],
-    more: usize,
-    samples: &mut [i16],
-) -> Result<Recording, Refusal>
-    requires { (0 < more → recording_bytes ≤ length input.now) × (recording_samples ≤ length samples.old) }
-    ensures { (rest : List ℕ) → length rest ≡ more → take_outcome (told result) samples.new ≡ take_call head (input.now ++ rest) samples.old }
+// Judges an input: refusals 10, then 1, 2, 3, then 11 where the second threshold comes from the speech, then 6 over the frames that a program takes, then 9 for options that are not known. An
+// input that is taken leaves its samples in the first places of `samples`; a refusal leaves them all.
+pub fn take_recording(input: RecordedInput, samples: &mut [i16]) -> Result<Recording, Refusal>
+    requires { recording_samples ≤ length samples.old }
+    ensures { (rest : List ℕ) → length rest ≡ input.entry.more → take_outcome (told result) samples.new ≡ take_call input.entry.head (input.entry.bytes.now ++ rest) samples.old }
 {
-    check(head, input, more)?;
+    check(input)?;
+    let RecordedInput { head, bytes, .. } = input;
     let size = head_size(head);
-    let settings = head_settings(head, input);
-    let n = (input.len() - size) / 2;
-    load_samples(input, size, &mut samples[..n]);
+    let settings = head_settings(head, bytes);
+    let n = (bytes.len() - size) / 2;
+    load_samples(bytes, size, &mut samples[..n]);
     Ok(Recording {
         settings,
         samples: n,

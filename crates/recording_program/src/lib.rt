@@ -3,11 +3,11 @@
 
 ghost use Rattle.std.specs.Prelude.{◌≡◌, List, ◌++◌, ℕ, ◌^◌, ◌<◌, ◌≤◌, take, length, IfSome, OnOk};
 ghost use Rattle.std.specs.Io.KnownBytes.{Appends};
-ghost use Rattle.pitch_recording.specs.Recording.{recording_samples, recording_bytes, recording_numbers};
+ghost use Rattle.pitch_recording.specs.Recording.{recording_samples, recording_numbers};
 ghost use Rattle.recording_head.specs.declared.Head.{Head};
 ghost use Rattle.recording_io.specs.ReadAnswer.{most_reads};
 
-use pitch_recording::{RECORDING_BYTES, RECORDING_NUMBERS, RECORDING_SAMPLES};
+use pitch_recording::{RECORDING_BYTES, RECORDING_NUMBERS, RECORDING_SAMPLES, RecordedInput};
 use recording_head::Head;
 use recording_io::{Failure, read_recording, write_output};
 use rooms::room;
@@ -18,17 +18,10 @@ pub trait RecordingProgram<const LONGEST: usize> {
     // the bytes that it makes of an input with this head
     ghost made: { Head → List ℕ → List ℕ };
 
-    // Puts them into the first bytes of `out`, for an input that begins with these bytes and has `more` after them; how many they are. Samples and rows are left in the rooms for them.
-    fn make(
-        head: Head,
-        input: &[u8],
-        more: usize,
-        samples: &mut [i16],
-        table: &mut [i32],
-        out: &mut [u8],
-    ) -> usize
-        requires { (0 < more → recording_bytes ≤ length input.now) × (recording_samples ≤ length samples.old) × (recording_numbers ≤ length table.old) × (LONGEST ≤ length out.old) }
-        ensures value { (rest : List ℕ) → length rest ≡ more → take result out.new ≡ made head (input.now ++ rest) }
+    // Puts them into the first bytes of `out`, for this input; how many they are. Samples and rows are left in the rooms for them.
+    fn make(input: RecordedInput, samples: &mut [i16], table: &mut [i32], out: &mut [u8]) -> usize
+        requires { (recording_samples ≤ length samples.old) × (recording_numbers ≤ length table.old) × (LONGEST ≤ length out.old) }
+        ensures value { (rest : List ℕ) → length rest ≡ input.entry.more → take result out.new ≡ made input.entry.head (input.entry.bytes.now ++ rest) }
         ensures bound { result ≤ LONGEST };
 
     // as many as an array can have
@@ -52,13 +45,11 @@ pub fn run_program<P: RecordingProgram<LONGEST>, const LONGEST: usize, R: Read, 
     let mut samples = room::<i16, RECORDING_SAMPLES>(0);
     let mut table = room::<i32, RECORDING_NUMBERS>(0);
     let mut out = room::<u8, LONGEST>(0);
-    let made = P::make(
+    let recorded = RecordedInput {
         head,
-        &bytes[..n],
-        whole.more,
-        &mut samples,
-        &mut table,
-        &mut out,
-    );
+        bytes: &bytes[..n],
+        more: whole.more,
+    };
+    let made = P::make(recorded, &mut samples, &mut table, &mut out);
     write_output(output, errors, name, &out[..made])
 }

@@ -1,20 +1,19 @@
 // What the programs `sheet_write` and `sheet_write_options` write: their input's bytes are taken apart, tracked, and written as a sheet.
 #![tactic(auto)]
 
-ghost use Rattle.std.specs.Prelude.{◌≡◌, List, [], ◌++◌, ℕ, ◌/◌, ◌<◌, ◌≤◌, length};
+ghost use Rattle.std.specs.Prelude.{◌≡◌, List, [], ◌++◌, ℕ, ◌/◌, ◌≤◌, length};
 ghost use Rattle.lists.specs.Fill.{overwritten};
 ghost use Rattle.track_settings.specs.TrackSettings.{stored_settings};
 ghost use Rattle.track_paper.specs.Paper.{track_limit, paper_no, paper_table};
-ghost use Rattle.pitch_recording.specs.Recording.{recording_samples, recording_bytes, recording_numbers, recording_printed};
+ghost use Rattle.pitch_recording.specs.Recording.{recording_samples, recording_numbers, recording_printed};
 ghost use Rattle.track_sheet.specs.Accepted.{paper_sheet};
 ghost use Rattle.sheet_write_bytes.specs.Program.{longest_program_sheet, sheet_bytes_call};
 ghost use Rattle.pitch_table.specs.Row.{row_size};
 
-use pitch_recording::{PROGRAM_FRAMES, RecordedTrack, take_recording};
+use pitch_recording::{PROGRAM_FRAMES, RecordedInput, RecordedTrack, take_recording};
 use pitch_sheet::write_sheet;
 use pitch_text::put_refusal;
 use pitch_track::Track;
-use recording_head::Head;
 use sheet_sections::{SHORTEST_SHEET, VOICED_FRAME_BYTES};
 
 // The longest sheet: that of as many voiced frames as a program takes.
@@ -35,21 +34,19 @@ fn put_track(recorded: RecordedTrack, table: &mut [i32], out: &mut [u8]) -> usiz
     write_sheet(stored, frames, table, out).unwrap_or(0)
 }
 
-// The bytes for an input with this head that begins with these bytes and has `more` after them, in the first bytes of `out`; how many they are. The input's samples are left in the first places of
+// The bytes for an input, in the first bytes of `out`; how many they are. The input's samples are left in the first places of
 // `samples` and its rows in the first rows of `table`, by a refusal nothing; all else stays.
 pub fn sheet_write_bytes(
-    head: Head,
-    input: &[u8],
-    more: usize,
+    input: RecordedInput,
     samples: &mut [i16],
     table: &mut [i32],
     out: &mut [u8],
 ) -> usize
-    requires { (0 < more → recording_bytes ≤ length input.now) × (recording_samples ≤ length samples.old) × (recording_numbers ≤ length table.old) × (longest_program_sheet ≤ length out.old) }
-    ensures by_index { (rest : List ℕ) → length rest ≡ more → recording_printed result out.new samples.new table.new ≡ sheet_bytes_call head (input.now ++ rest) out.old samples.old table.old }
+    requires { (recording_samples ≤ length samples.old) × (recording_numbers ≤ length table.old) × (longest_program_sheet ≤ length out.old) }
+    ensures by_index { (rest : List ℕ) → length rest ≡ input.entry.more → recording_printed result out.new samples.new table.new ≡ sheet_bytes_call input.entry.head (input.entry.bytes.now ++ rest) out.old samples.old table.old }
     ensures upper_bound { result ≤ longest_program_sheet }
 {
-    match take_recording(head, input, more, samples) {
+    match take_recording(input, samples) {
         Ok(recording) => {
             let recorded = RecordedTrack {
                 settings: recording.settings,

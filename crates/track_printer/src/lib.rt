@@ -4,7 +4,7 @@
 ghost use Rattle.std.proofs.Common.{rules};
 ghost use Rattle.track_text.specs.Program.{track_text};
 
-use recording_head::Head;
+use pitch_recording::RecordedInput;
 use recording_program::RecordingProgram;
 use track_text::{LONGEST_TEXT, track_text};
 
@@ -14,15 +14,8 @@ pub struct TrackText;
 impl RecordingProgram<LONGEST_TEXT> for TrackText {
     ghost made = { track_text };
 
-    fn make(
-        head: Head,
-        input: &[u8],
-        more: usize,
-        samples: &mut [i16],
-        table: &mut [i32],
-        out: &mut [u8],
-    ) -> usize {
-        track_text(head, input, more, samples, table, out)
+    fn make(input: RecordedInput, samples: &mut [i16], table: &mut [i32], out: &mut [u8]) -> usize {
+        track_text(input, samples, table, out)
     }
 
     ghost fits = { Prim.search rules };

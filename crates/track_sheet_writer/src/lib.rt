@@ -4,7 +4,7 @@
 ghost use Rattle.std.proofs.Common.{rules};
 ghost use Rattle.sheet_write_bytes.specs.Program.{sheet_written};
 
-use recording_head::Head;
+use pitch_recording::RecordedInput;
 use recording_program::RecordingProgram;
 use sheet_write_bytes::{LONGEST_PROGRAM_SHEET, sheet_write_bytes};
 
@@ -14,15 +14,8 @@ pub struct TrackSheet;
 impl RecordingProgram<LONGEST_PROGRAM_SHEET> for TrackSheet {
     ghost made = { sheet_written };
 
-    fn make(
-        head: Head,
-        input: &[u8],
-        more: usize,
-        samples: &mut [i16],
-        table: &mut [i32],
-        out: &mut [u8],
-    ) -> usize {
-        sheet_write_bytes(head, input, more, samples, table, out)
+    fn make(input: RecordedInput, samples: &mut [i16], table: &mut [i32], out: &mut [u8]) -> usize {
+        sheet_write_bytes(input, samples, table, out)
     }
 
     ghost fits = { Prim.search rules };

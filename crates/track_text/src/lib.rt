@@ -1,18 +1,17 @@
 // What the programs `track` and `track_options` print: their input's bytes are taken apart, tracked, and written as text.
 #![tactic(auto)]
 
-ghost use Rattle.std.specs.Prelude.{◌≡◌, List, ◌++◌, ℕ, ◌<◌, ◌≤◌, length};
-ghost use Rattle.pitch_recording.specs.Recording.{recording_samples, recording_bytes, recording_numbers, recording_printed};
+ghost use Rattle.std.specs.Prelude.{◌≡◌, List, ◌++◌, ℕ, ◌≤◌, length};
+ghost use Rattle.pitch_recording.specs.Recording.{recording_samples, recording_numbers, recording_printed};
 ghost use Rattle.pitch_text.specs.Text.{Put};
 ghost use Rattle.track_paper.specs.Paper.{F, paper_table};
 ghost use Rattle.track_text.specs.Program.{longest_head, longest_text, samples_left, track_head, track_report, track_text_call, Tracked};
 
-use pitch_recording::{PROGRAM_FRAMES, RecordedTrack, take_recording};
+use pitch_recording::{PROGRAM_FRAMES, RecordedInput, RecordedTrack, take_recording};
 use pitch_settings::Analysed;
 use pitch_table::ROW_SIZE;
 use pitch_text::{DIGITS_BYTES, LINE_BYTES, put_digits, put_lines, put_refusal};
 use pitch_track::Track;
-use recording_head::Head;
 
 // The longest text: the first line's two numbers, the space between them and its end, and a line for each frame that a program takes.
 pub const LONGEST_TEXT: usize = DIGITS_BYTES + 1 + DIGITS_BYTES + 1 + LINE_BYTES * PROGRAM_FRAMES;
@@ -65,21 +64,19 @@ fn put_report(recorded: RecordedTrack, table: &mut [i32], out: &mut [u8]) -> usi
     put_lines(out, p, k.nb, &table[..frames * ROW_SIZE])
 }
 
-// The text for an input with this head that begins with these bytes and has `more` after them, in the first bytes of `out`; how many they are. The input's samples are left in the first places of
+// The text for an input, in the first bytes of `out`; how many they are. The input's samples are left in the first places of
 // `samples` and its rows in the first rows of `table`, by a refusal nothing; all else stays.
 pub fn track_text(
-    head: Head,
-    input: &[u8],
-    more: usize,
+    input: RecordedInput,
     samples: &mut [i16],
     table: &mut [i32],
     out: &mut [u8],
 ) -> usize
-    requires { (0 < more → recording_bytes ≤ length input.now) × (recording_samples ≤ length samples.old) × (recording_numbers ≤ length table.old) × (longest_text ≤ length out.old) }
-    ensures by_index { (rest : List ℕ) → length rest ≡ more → recording_printed result out.new samples.new table.new ≡ track_text_call head (input.now ++ rest) out.old samples.old table.old }
+    requires { (recording_samples ≤ length samples.old) × (recording_numbers ≤ length table.old) × (longest_text ≤ length out.old) }
+    ensures by_index { (rest : List ℕ) → length rest ≡ input.entry.more → recording_printed result out.new samples.new table.new ≡ track_text_call input.entry.head (input.entry.bytes.now ++ rest) out.old samples.old table.old }
     ensures upper_bound { result ≤ longest_text }
 {
-    match take_recording(head, input, more, samples) {
+    match take_recording(input, samples) {
         Ok(recording) => {
             let recorded = RecordedTrack {
                 settings: recording.settings,

@@ -22,38 +22,38 @@ module _ (head : Head) (b : List ℕ) {k : TrackSettings} (named : k ≡ head_se
 
 pub returns-then-len-size : goal.returns-then-len-size
 returns-then-len-size c rest e =
-    no_short c.args.head c.args.input.now rest c.head_size-size.result c.args.more c.head_size-size.ensures e c.requires c.if-len-size.true
+    no_short c.args.input.head c.args.input.bytes.now rest c.head_size-size.result c.args.input.more c.head_size-size.ensures e c.args.input.full c.if-len-size.true
 
 pub returns-then-half : goal.returns-then-half
 returns-then-half c rest e =
-    no_half c.args.head c.args.input.now rest c.head_size-size.result c.args.more c.head_size-size.ensures e c.requires c.if-len-size.false c.if-half.true
+    no_half c.args.input.head c.args.input.bytes.now rest c.head_size-size.result c.args.input.more c.head_size-size.ensures e c.args.input.full c.if-len-size.false c.if-half.true
 
 pub returns-in_err-track : goal.returns-in_err-track
 returns-in_err-track c rest e =
     let n : number_told c.from_residual.result ≡ track_settings_no c.head_settings.result (pos 0) = search rules in
-    no_refused c.args.head c.args.input.now rest c.head_size-size.result c.args.more c.head_size-size.ensures e c.requires c.if-len-size.false c.if-half.false
+    no_refused c.args.input.head c.args.input.bytes.now rest c.head_size-size.result c.args.input.more c.head_size-size.ensures e c.args.input.full c.if-len-size.false c.if-half.false
     c.from_residual.result c.from_residual.ensures.0 (n ∙ ap (λ (t : TrackSettings). track_settings_no t (pos 0)) c.head_settings.ensures)
 
 pub returns-then-more-gt0 : goal.returns-then-more-gt0
 returns-then-more-gt0 c rest e =
-    no_more c.args.head c.args.input.now rest c.head_size-size.result c.args.more c.head_size-size.ensures e c.requires c.if-len-size.false c.if-half.false (right _ _ c.head_settings.ensures c.in_ok-track.ensures.number) c.if-more-gt0.true
+    no_more c.args.input.head c.args.input.bytes.now rest c.head_size-size.result c.args.input.more c.head_size-size.ensures e c.args.input.full c.if-len-size.false c.if-half.false (right _ _ c.head_settings.ensures c.in_ok-track.ensures.number) c.if-more-gt0.true
 
 pub returns-then-long : goal.returns-then-long
 unfolding first_recording_refusal
 returns-then-long c rest e =
-    ap (λ (l : Bool). first_recording_refusal false 0 l (head_known c.args.head c.args.input.now)) (sym (long c.args.head c.args.input.now c.head_settings.ensures _ c.is_long-long.ensures c.stored.ensures c.in_ok-track.ensures.settings ∙ c.if-long.true))
-    ∙ no_all c.args.head c.args.input.now rest c.head_size-size.result c.args.more c.head_size-size.ensures e c.requires c.if-len-size.false c.if-half.false (right _ _ c.head_settings.ensures c.in_ok-track.ensures.number) c.if-more-gt0.false
+    ap (λ (l : Bool). first_recording_refusal false 0 l (head_known c.args.input.head c.args.input.bytes.now)) (sym (long c.args.input.head c.args.input.bytes.now c.head_settings.ensures _ c.is_long-long.ensures c.stored.ensures c.in_ok-track.ensures.settings ∙ c.if-long.true))
+    ∙ no_all c.args.input.head c.args.input.bytes.now rest c.head_size-size.result c.args.input.more c.head_size-size.ensures e c.args.input.full c.if-len-size.false c.if-half.false (right _ _ c.head_settings.ensures c.in_ok-track.ensures.number) c.if-more-gt0.false
 
 pub returns-then-not-known : goal.returns-then-not-known
 unfolding first_recording_refusal
 returns-then-not-known c rest e =
     ap (λ (k : Bool). first_recording_refusal false 0 false k) (sym c.if-not-known.true ∙ c.head_known-known.ensures)
-    ∙ ap (λ (l : Bool). first_recording_refusal false 0 l (head_known c.args.head c.args.input.now)) (sym (long c.args.head c.args.input.now c.head_settings.ensures _ c.is_long-long.ensures c.stored.ensures c.in_ok-track.ensures.settings ∙ c.if-long.false))
-    ∙ no_all c.args.head c.args.input.now rest c.head_size-size.result c.args.more c.head_size-size.ensures e c.requires c.if-len-size.false c.if-half.false (right _ _ c.head_settings.ensures c.in_ok-track.ensures.number) c.if-more-gt0.false
+    ∙ ap (λ (l : Bool). first_recording_refusal false 0 l (head_known c.args.input.head c.args.input.bytes.now)) (sym (long c.args.input.head c.args.input.bytes.now c.head_settings.ensures _ c.is_long-long.ensures c.stored.ensures c.in_ok-track.ensures.settings ∙ c.if-long.false))
+    ∙ no_all c.args.input.head c.args.input.bytes.now rest c.head_size-size.result c.args.input.more c.head_size-size.ensures e c.args.input.full c.if-len-size.false c.if-half.false (right _ _ c.head_settings.ensures c.in_ok-track.ensures.number) c.if-more-gt0.false
 
 pub returns : goal.returns
 unfolding first_recording_refusal
 returns c rest e =
     ap (λ (k : Bool). first_recording_refusal false 0 false k) (sym c.if-not-known.false ∙ c.head_known-known.ensures)
-    ∙ ap (λ (l : Bool). first_recording_refusal false 0 l (head_known c.args.head c.args.input.now)) (sym (long c.args.head c.args.input.now c.head_settings.ensures _ c.is_long-long.ensures c.stored.ensures c.in_ok-track.ensures.settings ∙ c.if-long.false))
-    ∙ no_all c.args.head c.args.input.now rest c.head_size-size.result c.args.more c.head_size-size.ensures e c.requires c.if-len-size.false c.if-half.false (right _ _ c.head_settings.ensures c.in_ok-track.ensures.number) c.if-more-gt0.false
+    ∙ ap (λ (l : Bool). first_recording_refusal false 0 l (head_known c.args.input.head c.args.input.bytes.now)) (sym (long c.args.input.head c.args.input.bytes.now c.head_settings.ensures _ c.is_long-long.ensures c.stored.ensures c.in_ok-track.ensures.settings ∙ c.if-long.false))
+    ∙ no_all c.args.input.head c.args.input.bytes.now rest c.head_size-size.result c.args.input.more c.head_size-size.ensures e c.args.input.full c.if-len-size.false c.if-half.false (right _ _ c.head_settings.ensures c.in_ok-track.ensures.number) c.if-more-gt0.false

@@ -24,27 +24,27 @@ returns-in_err-check c rest e =
     refused_answer _ _ _ c.from_residual.result c.from_residual.ensures.0 (n ∙ c.in_err-check.ensures rest e)
 
 pub head_settings-settings-requires : goal.head_settings-settings-requires
-head_settings-settings-requires c = (at_hand _ _ _ 0 c.requires.0 c.in_ok-check.ensures refl).1.enough
+head_settings-settings-requires c = (at_hand _ _ _ 0 c.args.input.full c.in_ok-check.ensures refl).1.enough
 
 pub overflow_sub-n : goal.overflow_sub-n
 overflow_sub-n c =
-    let w = at_hand _ _ _ 0 c.requires.0 c.in_ok-check.ensures refl in
+    let w = at_hand _ _ _ 0 c.args.input.full c.in_ok-check.ensures refl in
     omega (arith, c.head_size-size.ensures, w.1.enough)
 
 pub slice_bounds-load_samples-end : goal.slice_bounds-load_samples-end
 slice_bounds-load_samples-end c =
-    let w = at_hand _ _ _ 0 c.requires.0 c.in_ok-check.ensures refl in
-    room _ _ _ c.head_size-size.ensures w.1 c.args.samples.now c.requires.1
+    let w = at_hand _ _ _ 0 c.args.input.full c.in_ok-check.ensures refl in
+    room _ _ _ c.head_size-size.ensures w.1 c.args.samples.now c.requires
 
 pub slice_bounds-load_samples-end-2 : goal.slice_bounds-load_samples-end-2
 slice_bounds-load_samples-end-2 c =
-    let w = at_hand _ _ _ 0 c.requires.0 c.in_ok-check.ensures refl in
-    sym (length-take-le _ c.args.samples.now (room _ _ _ c.head_size-size.ensures w.1 c.args.samples.now c.requires.1))
+    let w = at_hand _ _ _ 0 c.args.input.full c.in_ok-check.ensures refl in
+    sym (length-take-le _ c.args.samples.now (room _ _ _ c.head_size-size.ensures w.1 c.args.samples.now c.requires))
 
 pub load_samples-requires : goal.load_samples-requires
 load_samples-requires c =
-    let w = at_hand _ _ _ 0 c.requires.0 c.in_ok-check.ensures refl in
-    let r = room _ _ _ c.head_size-size.ensures w.1 c.args.samples.now c.requires.1 in
+    let w = at_hand _ _ _ 0 c.args.input.full c.in_ok-check.ensures refl in
+    let r = room _ _ _ c.head_size-size.ensures w.1 c.args.samples.now c.requires in
     rw (length-take-le _ c.args.samples.now r) (omega (arith, c.head_size-size.ensures, w.1.enough))
 
 -- the samples `out` that are loaded over the front of x
@@ -57,11 +57,11 @@ loaded_is head b size sized x out r e =
 pub returns : goal.returns
 returns c rest e =
     let a = c.args in
-    let b = a.input.now in
-    let w = at_hand _ _ _ 0 c.requires.0 c.in_ok-check.ensures refl in
-    let g = none_after b rest a.more w.0 e in
-    let z = ap (recording_no a.head) (sym g) ∙ sym (c.in_ok-check.ensures rest e) in
+    let b = a.input.bytes.now in
+    let w = at_hand _ _ _ 0 c.args.input.full c.in_ok-check.ensures refl in
+    let g = none_after b rest a.input.more w.0 e in
+    let z = ap (recording_no a.input.head) (sym g) ∙ sym (c.in_ok-check.ensures rest e) in
     let size = c.head_size-size.ensures in
-    let loaded = loaded_is a.head b _ size a.samples.now c.load_samples.new.out (room _ _ _ size w.1 a.samples.now c.requires.1) c.load_samples.ensures in
-    taken_outcome a.head b a.samples.now _ _ _ z c.head_settings-settings.ensures (counted a.head b _ size) loaded
-    ∙ ap (λ (l : List ℕ). take_call a.head l a.samples.now) (sym g)
+    let loaded = loaded_is a.input.head b _ size a.samples.now c.load_samples.new.out (room _ _ _ size w.1 a.samples.now c.requires) c.load_samples.ensures in
+    taken_outcome a.input.head b a.samples.now _ _ _ z c.head_settings-settings.ensures (counted a.input.head b _ size) loaded
+    ∙ ap (λ (l : List ℕ). take_call a.input.head l a.samples.now) (sym g)

@@ -26,8 +26,8 @@ pub scale_into-requires : goal.scale_into-requires
 scale_into-requires c =
     (omega (arith, sized c.args.frame.now c.frame_length.ensures c.requires, (accepted_settings _ c.args.s.analysed).small), c.frame_shift-shift.ensures.1)
 
-pub working_frame-w-requires : goal.working_frame-w-requires
-working_frame-w-requires c =
+pub working_frame-requires : goal.working_frame-requires
+working_frame-requires c =
     omega (arith, sized c.args.frame.now c.frame_length.ensures c.requires, (accepted_settings _ c.args.s.analysed).small, c.scale_into.auto.scratch)
 
 -- the working frame w, of the samples y, with the shift k and the scratch as they were computed
@@ -38,10 +38,10 @@ working s x l {n} e f g q =
     let whole : take (length y) y ≡ y = take_all (length y) y (omega arith) in
     q ∙ working_scaled y l (length y) (omega arith) (f ∙ ap down_shift (sym whole)) g ∙ ap scaled whole ∙ ap (λ (m : ℕ). scaled (take m x)) e
 
-pub analyse_working-requires : goal.analyse_working-requires
-analyse_working-requires c =
-    let e = working c.args.s.settings c.args.frame.now _ c.frame_length.ensures c.frame_shift-shift.ensures.0 c.scale_into.ensures c.working_frame-w.ensures in
-    ap length e ∙ length_scaled (take (frame_length c.args.s.settings) c.args.frame.now) ∙ length-take-le (frame_length c.args.s.settings) c.args.frame.now c.requires
+pub invariant_of-working : goal.invariant_of-working
+invariant_of-working c =
+    let e = working c.args.s.settings c.args.frame.now _ c.frame_length.ensures c.frame_shift-shift.ensures.0 c.scale_into.ensures c.working_frame.ensures in
+    record { whole = ap length e ∙ length_scaled (take (frame_length c.args.s.settings) c.args.frame.now) ∙ length-take-le (frame_length c.args.s.settings) c.args.frame.now c.requires }
 
 -- the verdict of the working frame
 verdict : (s : Settings) (x : List ℤ) {w : List ℤ} (prev corr : ℤ) {v : Verdict} → w ≡ scaled (take (frame_length s) x) → v ≡ staged s w prev corr → v ≡ verdict_of s (take (frame_length s) x) prev corr
@@ -51,6 +51,6 @@ verdict s x prev corr e h = h ∙ (λ i. staged s (e i) prev corr)
 pub returns : goal.returns
 returns c =
     let a = c.args in
-    let w = working a.s.settings a.frame.now _ c.frame_length.ensures c.frame_shift-shift.ensures.0 c.scale_into.ensures c.working_frame-w.ensures in
-    let v = verdict a.s.settings a.frame.now a.prev.lag a.prev.correlation w c.analyse_working.ensures in
+    let w = working a.s.settings a.frame.now _ c.frame_length.ensures c.frame_shift-shift.ensures.0 c.scale_into.ensures c.working_frame.ensures in
+    let v = verdict a.s.settings a.frame.now a.prev.lag a.prev.correlation w c.verdict.ensures in
     record { verdict = v; carried = subst (VerdictCarried a.s.settings) (sym v) (first_carried a.s.settings a.frame.now a.s.analysed c.requires a.prev.lag a.prev.correlation) }

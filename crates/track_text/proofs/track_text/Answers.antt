@@ -11,17 +11,17 @@ use Rattle.track_text.proofs.track_text.Goals as goal
 pub slice_bounds-recorded-end : goal.slice_bounds-recorded-end
 slice_bounds-recorded-end c =
     let t = any_taken _ _ _ _ _ _ _ c.take_recording.ensures c.in-Ok.is in
-    taken_room _ _ _ _ _ _ t c.take_recording.auto.samples c.requires.1
+    taken_room _ _ _ _ _ _ t c.take_recording.auto.samples c.requires.0
 
 pub slice_bounds-recorded-end-in-Ok : goal.slice_bounds-recorded-end-in-Ok
 slice_bounds-recorded-end-in-Ok c =
     let t = any_taken _ _ _ _ _ _ _ c.take_recording.ensures c.in-Ok.is in
-    sym (length-take-le _ _ (taken_room _ _ _ _ _ _ t c.take_recording.auto.samples c.requires.1))
+    sym (length-take-le _ _ (taken_room _ _ _ _ _ _ t c.take_recording.auto.samples c.requires.0))
 
 pub invariant_of-recorded : goal.invariant_of-recorded
 invariant_of-recorded c =
     let t = any_taken _ _ _ _ _ _ _ c.take_recording.ensures c.in-Ok.is in
-    let r = taken_room _ _ _ _ _ _ t c.take_recording.auto.samples c.requires.1 in
+    let r = taken_room _ _ _ _ _ _ t c.take_recording.auto.samples c.requires.0 in
     record { accepted = t.accepted; few = rw (length-take-le _ _ r) t.few }
 
 pub returns-in-Err : goal.returns-in-Err
@@ -30,10 +30,10 @@ returns-in-Err c =
     let w = c.put_refusal.ensures in record {
       by_index = λ rest e.
           let f = is_refused _ _ _ _ _ (c.take_recording.ensures rest e) _ c.in-Err.is in
-          let b = c.args.input.now ++ rest in
-          let q = put_as w.0 (text_refused c.args.head b _ f.number_is f.some_number) in
+          let b = c.args.input.bytes.now ++ rest in
+          let q = put_as w.0 (text_refused c.args.input.head b _ f.number_is f.some_number) in
           ap (λ (x : List ℤ). recording_printed c.put_refusal.result c.put_refusal.new.out x c.args.table.now) f.samples_stay
-          ∙ printed_refused c.args.head b _ c.args.out.now c.args.samples.now c.args.table.now (put_count q) (put_over q (omega (arith, w.1, c.requires.3))) _ f.number_is f.some_number;
+          ∙ printed_refused c.args.input.head b _ c.args.out.now c.args.samples.now c.args.table.now (put_count q) (put_over q (omega (arith, w.1, c.requires.2))) _ f.number_is f.some_number;
       upper_bound = omega (arith, w.1);
     }
 
@@ -43,9 +43,9 @@ returns-in-Ok c =
     let w = c.put_report.ensures in record {
       by_index = λ rest e.
           let f = is_taken _ _ _ _ _ (c.take_recording.ensures rest e) _ c.in-Ok.is in
-          let b = c.args.input.now ++ rest in
-          let q = put_as w.0 (ap₂ track_report f.settings_are f.front ∙ text_report c.args.head b f.no_refusal) in
-          printed_taken c.args.head b _ c.args.out.now _ _ (put_count q) (put_over q (omega (arith, w.1, c.requires.3))) f.no_refusal f.samples_are
+          let b = c.args.input.bytes.now ++ rest in
+          let q = put_as w.0 (ap₂ track_report f.settings_are f.front ∙ text_report c.args.input.head b f.no_refusal) in
+          printed_taken c.args.input.head b _ c.args.out.now _ _ (put_count q) (put_over q (omega (arith, w.1, c.requires.2))) f.no_refusal f.samples_are
           (w.2 ∙ (λ i. paper_table (f.settings_are i) c.args.table.now (f.front i)));
       upper_bound = w.1;
     }

@@ -1,8 +1,12 @@
--- `silk_pitch_analysis::stages` meets its contract.
-use Rattle.std.proofs.Common.{◌≡◌, sym, ap, ◌∙◌, subst, List, ◌<◌, arith, ℤ, take, Result, Ok, Err, w32, SFits, to_z, of_z}
+-- `WorkingFrame::stages` meets its contract.
+use mathlib.Core.Path.{◌≡◌, sym, ap, ◌∙◌, subst}
+use mathlib.Core.List.{List}
+use Prim.Native.Nat.{◌<◌}
+use native.Mathlib.Omega.{arith}
+use lib.IntN.{ℤ}
+use lib.ListN.{take}
+use Rattle.std.specs.Prelude.{Result, Ok, Err}
 use Rattle.std.proofs.lemmas.Result.{err_from_is_err_and}
-use Rattle.zint.specs.ReadLaws.{r_var}
-use Rattle.zint.specs.RuleLaws.{zneeds}
 use Rattle.pitch_settings.specs.declared.Settings.{Settings}
 use Rattle.pitch_settings.specs.Settings.{settings_no}
 use Rattle.pitch_settings.specs.SettingsLaws.{accepted_settings}
@@ -15,7 +19,7 @@ use Rattle.stage2.specs.Stage2.{stage2}
 use Rattle.stage2_correlations.specs.Marks.{Kept}
 use Rattle.silk_pitch_analysis.specs.Frame.{from_winner, from_screen, second_stage}
 use Rattle.silk_pitch_analysis.specs.Steps.{verdict_without}
-use Rattle.silk_pitch_analysis.proofs.stages.Goals as goal
+use Rattle.silk_pitch_analysis.proofs.working.WorkingFrame.stages.Goals as goal
 
 -- stage 1's answer r, and what is kept where it goes on
 module _ (s : Settings) (f : List ℤ) (h : settings_no s ≡ 0) where
@@ -43,7 +47,7 @@ module _ (s : Settings) (f : List ℤ) (h : settings_no s ≡ 0) where
 
 pub search_stage1-requires : goal.search_stage1-requires
 search_stage1-requires c =
-    let a = accepted_settings _ c.args.s.analysed in
+    let a = accepted_settings _ c.args.self.settings.analysed in
     record { subframes = a.subframes; complexity = omega (arith, a.complexity); long = omega (arith, c.requires.four) }
 
 pub returns-in_err-kept : goal.returns-in_err-kept
@@ -51,22 +55,22 @@ returns-in_err-kept c =
     let a = c.args in
     let r = c.search_stage1 in
     let p = err_from_is_err_and c.from_residual.result c.from_residual.ensures.1 in
-    rw (p.1, p.2) (without a.s.settings a.f.now c.args.s.analysed r.result r.ensures.value a.w.now a.e.now a.prev.lag a.prev.correlation _ c.in_err-kept.was)
+    rw (p.1, p.2) (without a.self.settings.settings a.f.now c.args.self.settings.analysed r.result r.ensures.value a.self.samples.now a.e.now a.prev.lag a.prev.correlation _ c.in_err-kept.was)
 
 pub second_stage-requires : goal.second_stage-requires
 second_stage-requires c =
     let a = c.args in
     let p = c.requires in
     let r = c.search_stage1 in
-    let e = c.as_slice.ensures ∙ front a.s.settings a.f.now a.s.analysed r.result r.ensures.value _ c.in_ok-kept.was in
-    record { frame = p.frame; eight = p.eight; kept = subst Kept (sym e) (lags_kept a.s.settings a.f.now a.s.analysed) }
+    let e = c.as_slice.ensures ∙ front a.self.settings.settings a.f.now a.self.settings.analysed r.result r.ensures.value _ c.in_ok-kept.was in
+    record { eight = p.eight; kept = subst Kept (sym e) (lags_kept a.self.settings.settings a.f.now a.self.settings.analysed) }
 
 pub returns : goal.returns
 unfolding second_stage
 returns c =
     let a = c.args in
     let r = c.search_stage1 in
-    let e = c.as_slice.ensures ∙ front a.s.settings a.f.now c.args.s.analysed r.result r.ensures.value _ c.in_ok-kept.was in
+    let e = c.as_slice.ensures ∙ front a.self.settings.settings a.f.now c.args.self.settings.analysed r.result r.ensures.value _ c.in_ok-kept.was in
     c.second_stage.ensures
-    ∙ (λ i. from_winner a.s.settings a.w.now (stage2 a.e.now (e i) a.s.settings.rate a.s.settings.nb a.s.settings.complexity a.s.settings.thres2 a.prev.lag a.prev.correlation))
-    ∙ goes a.s.settings a.f.now c.args.s.analysed r.result r.ensures.value a.w.now a.e.now a.prev.lag a.prev.correlation _ c.in_ok-kept.was
+    ∙ (λ i. from_winner a.self.settings.settings a.self.samples.now (stage2 a.e.now (e i) a.self.settings.settings.rate a.self.settings.settings.nb a.self.settings.settings.complexity a.self.settings.settings.thres2 a.prev.lag a.prev.correlation))
+    ∙ goes a.self.settings.settings a.f.now c.args.self.settings.analysed r.result r.ensures.value a.self.samples.now a.e.now a.prev.lag a.prev.correlation _ c.in_ok-kept.was

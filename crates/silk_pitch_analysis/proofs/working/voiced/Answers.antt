@@ -1,9 +1,9 @@
--- `silk_pitch_analysis::voiced` meets its contract.
+-- `silk_pitch_analysis::working::voiced` meets its contract.
 use Rattle.std.proofs.Common.{arith, ◌*◌, w32}
 use Rattle.zint.specs.DiffLaws.{n, ◌⊖◌, sfits_by}
 use Rattle.zint.specs.ReadLaws.{r_nat, r_var, r_sub, f_sub}
 use Rattle.silk_pitch_analysis.specs.declared.Verdict.TheVariants.{Voiced}
-use Rattle.silk_pitch_analysis.proofs.voiced.Goals as goal
+use Rattle.silk_pitch_analysis.proofs.working.voiced.Goals as goal
 
 pub overflow_sub-index : goal.overflow_sub-index
 overflow_sub-index c =
