@@ -7,7 +7,9 @@ ghost use Rattle.std.specs.Prelude.{◌≤◌, ◌*◌, length};
 ghost use Rattle.pitch_settings.specs.Settings.{longest_frame};
 ghost use Rattle.std.proofs.Common.{rules};
 
-use cases_io::{Records, byte_at, i32_at, load, nth, read_full, replay_input, report, same, skip};
+use cases_io::{
+    Records, byte_at, i32_at, kind_of, load, nth, read_full, replay_input, report, same,
+};
 use pitch_settings::{LONGEST_FRAME, Settings};
 use rooms::room;
 use silk_pitch_analysis::{Verdict, silk_pitch_analysis_core};
@@ -89,11 +91,7 @@ struct Frames;
 
 impl Records<20, 30> for Frames {
     fn kind(head: &[u8; 20]) -> Option<usize> {
-        let kind = byte_at(head, 0) as usize;
-        if kind >= 30 {
-            return None;
-        }
-        Some(kind)
+        kind_of(head, 30)
     }
 
     // A record that is cut short does not agree.
@@ -110,6 +108,7 @@ impl Records<20, 30> for Frames {
     ghost few = { Prim.search rules };
 }
 
+// What stands here is the program's own: its records, the bytes of a head, how many kinds there are and how many records are read at most.
 fn main(rt: HostRuntime) -> io::Result<()> {
     let tallies = replay_input::<Frames, 20, 30, _>(&mut rt.stdin(), 100000)?;
     report(&mut rt.stdout(), &tallies)

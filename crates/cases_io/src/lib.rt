@@ -1,11 +1,11 @@
 // What a program that replays a list of cases stands on: reading the list, little-endian numbers of a byte slice, comparison with them, and the lines that tell how many agree. A
-// byte past the end reads as 0, and so no place is out of range. Only `count` and `replay` have a `requires`: each kind has its place among the tallies, and what is given to call can be called.
+// byte past the end reads as 0, and so no place is out of range. Only `count`, `over_list` and `replay` have a `requires`: each kind has its place among the tallies, and what is given to call can be called.
 #![tactic(auto)]
 
-ghost use Rattle.std.specs.Prelude.{List, ℕ, ◌≡◌, ◌+◌, ◌*◌, ◌<◌, ◌≤◌, min, take, length, IfSome, IfOk, OnOk, slice_index};
+ghost use Rattle.std.specs.Prelude.{List, ℕ, ◌≡◌, ◌+◌, ◌*◌, ◌<◌, ◌≤◌, min, take, length, None, IfSome, IfOk, OnOk, slice_index};
 ghost use Rattle.std.specs.Io.{ReadsAtMost};
 ghost use Rattle.std.specs.Io.KnownBytes.{Appends, Consumes, IsAtEnd};
-ghost use Rattle.std.specs.Fn.{FnReturnsAt};
+ghost use Rattle.std.specs.Fn.{FnReturnsAt, FnOnceReturnsAt};
 ghost use Rattle.lists.specs.Fill.{filled};
 ghost use Rattle.cases_io.specs.Little.{u16_at, u32_at, u64_at, i16_at, i32_at, numbers_at, agree};
 ghost use Rattle.cases_io.specs.LittleLaws.{byte_cut, i16_cut, i32_cut, u32_cut};
@@ -16,6 +16,7 @@ ghost use Rattle.cases_io.specs.Lines.{tally_line, report_text};
 
 use pitch_settings::Settings;
 use recording_io::{Filled, fill};
+use rooms::room;
 use std::io;
 use std::io::{Read, Write};
 use zint::{as_i16, low32};
@@ -39,6 +40,20 @@ pub fn read_full<R: Read>(input: &mut R, buf: &mut [u8]) -> io::Result<usize>
     let Filled { count, end } = fill(input, buf);
     end?;
     Ok(count)
+}
+
+// Reads a list, to its end or as many bytes as there is room for, and runs `run` on it.
+pub fn over_list<R: Read, F: FnOnce(&[u8]) -> io::Result<()>>(
+    input: &mut R,
+    run: F,
+) -> io::Result<()>
+    requires { F.IsAlwaysCallable run }
+    ensures { OnOk result ((list : List ℕ) × Consumes (R.remaining input.old) (R.remaining input.new) list × (length list ≤ 1048576)
+        × (length list < 1048576 → IsAtEnd (R.remaining input.new)) × FnOnceReturnsAt F.FnOnce run list result) }
+{
+    let mut bytes = room::<u8, LIST_BYTES>(0);
+    let count = read_full(input, &mut bytes)?;
+    run(&bytes[..count])
 }
 
 // The byte at `at`, or 0 past the end.
@@ -330,6 +345,14 @@ pub fn replay<W: Write, S: Fn(&[u8]) -> usize, A: Fn(&[u8]) -> Option<bool>>(
         rest = after;
     }
     tally.print(output, name)
+}
+
+// The kind of a record, its head's first byte; none where it is not below `kinds`.
+pub fn kind_of(head: &[u8], kinds: usize) -> Option<usize>
+    ensures some { IfSome result (λ kind. (kind ≡ slice_index head.now 0) × (kind < kinds)) }
+    ensures none { result ≡ None → kinds ≤ slice_index head.now 0 }
+{
+    Some(byte_at(head, 0) as usize).filter(|kind| *kind < kinds)
 }
 
 // The records of an input: what a head tells, and whether what stands after it agrees.

@@ -5,8 +5,7 @@
 
 ghost use Rattle.std.specs.Prelude.{◌<◌, ◌≤◌};
 
-use cases_io::{LIST_BYTES, Tally, byte_at, read_full, skip, u16_at};
-use rooms::room;
+use cases_io::{Tally, byte_at, over_list, skip, u16_at};
 use silk_tables::rebuild::rebuilt_lag;
 use silk_tables::{contours_in_use, greatest_index};
 use std::io;
@@ -127,7 +126,5 @@ fn replay<W: Write>(output: &mut W, bytes: &[u8]) -> io::Result<()> {
 }
 
 fn main(rt: HostRuntime) -> io::Result<()> {
-    let mut bytes = room::<u8, LIST_BYTES>(0);
-    let n = read_full(&mut rt.stdin(), &mut bytes)?;
-    replay(&mut rt.stdout(), &bytes[..n])
+    over_list(&mut rt.stdin(), |list| replay(&mut rt.stdout(), list))
 }

@@ -6,8 +6,7 @@
 
 ghost use Rattle.std.specs.Prelude.{◌<◌};
 
-use cases_io::{LIST_BYTES, load, read_full, replay, same, u16_at};
-use rooms::room;
+use cases_io::{load, over_list, replay, same, u16_at};
 use silk_resampler::{
     silk_resampler_down2, silk_resampler_down2_3, silk_resampler_private_ar2, source_filter,
 };
@@ -22,7 +21,7 @@ enum Decimator {
     Down2By3,
 }
 
-// The decimator of a case, or none where no decimator has its kind. Kinds and numbers of samples are below 65536, so their first two bytes tell them.
+// The decimator of a case, or none where no decimator has its kind. Kinds and numbers of samples are below 65536, so their first two bytes tell them. The numbers are the list's own, so a match says which is which.
 fn decimator_of(case: &[u8]) -> Option<Decimator> {
     match u16_at(case, 0) {
         0 => Some(Decimator::Down2),
@@ -109,6 +108,7 @@ fn size(case: &[u8]) -> usize {
 }
 
 // Counts the cases of one decimator and prints the line.
+// A function of the program's own: one for every kind of case would take the finder of the kind, the answer and the size besides, for a closure of one line.
 fn replay_decimator<W: Write>(
     output: &mut W,
     list: &[u8],
@@ -116,30 +116,22 @@ fn replay_decimator<W: Write>(
     name: &[u8],
 ) -> io::Result<()> {
     replay(output, name, list, size, |case| {
-        if decimator_of(case) == Some(decimator) {
-            Some(agrees(decimator, case))
-        } else {
-            None
-        }
+        (decimator_of(case) == Some(decimator)).then(|| agrees(decimator, case))
     })
 }
 
-fn main(rt: HostRuntime) -> io::Result<()> {
-    let mut bytes = room::<u8, LIST_BYTES>(0);
-    let n = read_full(&mut rt.stdin(), &mut bytes)?;
-    let list = &bytes[..n];
-    let mut output = rt.stdout();
-    replay_decimator(&mut output, list, Decimator::Down2, b"silk_resampler_down2")?;
+// A line for each decimator.
+fn replay_all<W: Write>(output: &mut W, list: &[u8]) -> io::Result<()> {
+    replay_decimator(output, list, Decimator::Down2, b"silk_resampler_down2")?;
     replay_decimator(
-        &mut output,
+        output,
         list,
         Decimator::PrivateAr2,
         b"silk_resampler_private_ar2",
     )?;
-    replay_decimator(
-        &mut output,
-        list,
-        Decimator::Down2By3,
-        b"silk_resampler_down2_3",
-    )
+    replay_decimator(output, list, Decimator::Down2By3, b"silk_resampler_down2_3")
+}
+
+fn main(rt: HostRuntime) -> io::Result<()> {
+    over_list(&mut rt.stdin(), |list| replay_all(&mut rt.stdout(), list))
 }

@@ -6,29 +6,28 @@
 // count and table must come out. A table's number i is number i modulo n of those in the record.
 #![tactic(auto)]
 
-ghost use Rattle.std.specs.Prelude.{◌≤◌, length};
 ghost use Rattle.std.proofs.Common.{rules};
-ghost use Rattle.cases_sheet.specs.Rooms.{table_room, page_room, body_room};
 
 use cases_io::{
-    Records, byte_at, i32_at, read_full, replay_input, report, same_settings, settings_at, skip,
+    Records, byte_at, kind_of, nth, read_full, replay_input, report, same_settings, settings_at,
     u16_at, u32_at, usize_at,
 };
 use pitch_settings::{Held, Settings};
 use pitch_sheet::{read_sheet, write_sheet};
 use pitch_table::{MOST_FRAMES, ROW_SIZE};
 use refusals::Refusal;
+use rooms::room;
 use std::io;
 use std::io::Read;
 
-// The frames, the numbers of a table, the bytes of a page, and the bytes after a record's head for which there is room.
+// For how long a table, a page and a record's numbers there is room: some rows more than a sheet may have, and some bytes more than the longest sheet.
 const FRAMES_ROOM: usize = MOST_FRAMES + 4;
 
 const TABLE_ROOM: usize = ROW_SIZE * FRAMES_ROOM;
 
 const PAGE_ROOM: usize = 33000;
 
-const BODY_ROOM: usize = 4 * TABLE_ROOM + PAGE_ROOM;
+const NUMBERS_ROOM: usize = 4 * TABLE_ROOM;
 
 // The calls that a case may name.
 #[derive(Clone, Copy)]
@@ -72,72 +71,24 @@ fn table_before(i: usize) -> i32 {
     (i % 65536 + 1000000) as i32
 }
 
-// Number i of the table in the record; 0 where the record has no number.
-fn number_at(body: &[u8], numbers: usize, i: usize) -> i32
-    requires { numbers ≤ table_room }
+// Fills the places with what `told` says of each.
+fn fill_by<T: Copy, F: Fn(usize) -> T>(places: &mut [T], told: F)
+    requires { F.IsAlwaysCallable told }
 {
-    if numbers == 0 {
-        return 0;
+    for (i, place) in places.iter_mut().enumerate() {
+        *place = told(i);
     }
-    i32_at(body, 4 * (i % numbers))
 }
 
-// Fills the table with the record's numbers.
-fn load_table(body: &[u8], numbers: usize, table: &mut [i32])
-    requires { numbers ≤ table_room }
+// Whether there are as many places as are new, and each holds what `told` says of it.
+fn agree_by<T: PartialEq + Copy, F: Fn(usize) -> T>(places: &[T], new: usize, told: F) -> bool
+    requires { F.IsAlwaysCallable told }
 {
-    for (i, number) in table.iter_mut().enumerate() {
-        *number = number_at(body, numbers, i);
-    }
-}
-
-fn mark_table(table: &mut [i32]) {
-    for (i, number) in table.iter_mut().enumerate() {
-        *number = table_before(i);
-    }
-}
-
-fn mark_page(page: &mut [u8]) {
-    for (i, byte) in page.iter_mut().enumerate() {
-        *byte = page_before(i);
-    }
-}
-
-// What number i of a table is to be after the call that writes the first `new` of them.
-fn table_after(body: &[u8], numbers: usize, new: usize, i: usize) -> i32
-    requires { numbers ≤ table_room }
-{
-    if i < new {
-        number_at(body, numbers, i)
-    } else {
-        table_before(i)
-    }
-}
-
-// What byte i of a page is to be after the call that writes the first `new` of them; these stand in the record from `at` on.
-fn page_after(body: &[u8], at: usize, new: usize, i: usize) -> u8 {
-    if i < new {
-        byte_at(body, skip(body, at, i))
-    } else {
-        page_before(i)
-    }
-}
-
-// Whether the first `new` numbers are the record's, and the others as before.
-fn table_agrees(body: &[u8], numbers: usize, new: usize, table: &[i32]) -> bool
-    requires { numbers ≤ table_room }
-{
-    new <= table.len()
-        && table.iter().enumerate().all(|(i, number)| *number == table_after(body, numbers, new, i))
-}
-
-// Whether the first `new` bytes are the record's from `at` on, and the others as before.
-fn page_agrees(body: &[u8], at: usize, new: usize, page: &[u8]) -> bool {
-    new <= page.len()
-        && page
+    new <= places.len()
+        && places
             .iter()
             .enumerate()
-            .all(|(i, byte)| *byte == page_after(body, at, new, i))
+            .all(|(i, place)| *place == told(i))
 }
 
 fn wrote_agrees(c: Case, answer: Result<usize, Refusal>) -> bool {
@@ -156,64 +107,92 @@ fn got_agrees(c: Case, answer: Result<(Held, usize), Refusal>) -> bool {
     }
 }
 
-// Whether writing the record's table does to this page what the record says.
-fn written_agrees(body: &[u8], c: Case, table: &mut [i32], page: &mut [u8]) -> bool
-    requires { c.numbers ≤ table_room }
-{
-    load_table(body, c.numbers, table);
-    mark_page(page);
-    let answer = write_sheet(c.settings, c.frames, table, page);
-    wrote_agrees(c, answer) && page_agrees(body, 4 * c.numbers, c.bytes, page)
+// A record: what its head tells, and the numbers (4 bytes each) and the bytes after it.
+#[derive(Clone, Copy)]
+struct Record<'a> {
+    case: Case,
+    numbers: &'a [u8],
+    bytes: &'a [u8],
 }
 
-// Whether reading this page does to the table what the record says.
-fn read_agrees(body: &[u8], c: Case, page: &[u8], table: &mut [i32]) -> bool
-    requires { c.numbers ≤ table_room }
-{
-    if c.frames > FRAMES_ROOM {
-        return false;
+impl<'a> Record<'a> {
+    // Number i of the table; 0 where the record has no number.
+    fn number_at(self, i: usize) -> i32 {
+        let count = self.numbers.len() / 4;
+        if count == 0 {
+            return 0;
+        }
+        nth(self.numbers, 0, i % count)
     }
-    mark_table(table);
-    let answer = read_sheet(page, table);
-    got_agrees(c, answer) && table_agrees(body, c.numbers, ROW_SIZE * c.frames, table)
-}
 
-// A write with a table and a page of the lengths that it asks for. One that asks for too much does not agree.
-fn write_case(body: &[u8], c: Case) -> bool
-    requires { c.numbers ≤ table_room }
-{
-    let length = c.table;
-    let room = c.page;
-    if length > TABLE_ROOM || room > PAGE_ROOM {
-        return false;
+    // What number i of a table is to be after the call that writes the first `new` of them.
+    fn table_after(self, new: usize, i: usize) -> i32 {
+        if i < new {
+            self.number_at(i)
+        } else {
+            table_before(i)
+        }
     }
-    let mut table = [0i32; TABLE_ROOM];
-    let mut page = [0u8; PAGE_ROOM];
-    written_agrees(body, c, &mut table[..length], &mut page[..room])
-}
 
-// A read of the record's bytes, all of them, with a table of the length that it asks for.
-fn read_case(body: &[u8], c: Case) -> bool
-    requires { (c.numbers ≤ table_room) × (c.bytes ≤ page_room) × (body_room ≤ length body.now) }
-{
-    let length = c.table;
-    if length > TABLE_ROOM || c.page != c.bytes {
-        return false;
+    // What byte i of a page is to be after the call that writes the record's bytes.
+    fn page_after(self, i: usize) -> u8 {
+        if i < self.bytes.len() {
+            byte_at(self.bytes, i)
+        } else {
+            page_before(i)
+        }
     }
-    let from = 4 * c.numbers;
-    let end = from + c.bytes;
-    let mut table = [0i32; TABLE_ROOM];
-    read_agrees(body, c, &body[from..end], &mut table[..length])
-}
 
-// Whether the call that the record names agrees.
-fn case_agrees(body: &[u8], c: Case) -> bool
-    requires { (c.numbers ≤ table_room) × (c.bytes ≤ page_room) × (body_room ≤ length body.now) }
-{
-    match c.call {
-        Some(Call::Write) => write_case(body, c),
-        Some(Call::Read) => read_case(body, c),
-        None => false,
+    // Whether writing the record's table does to this page what the record says.
+    fn written_agrees(self, table: &mut [i32], page: &mut [u8]) -> bool {
+        let c = self.case;
+        fill_by(table, |i| self.number_at(i));
+        fill_by(page, page_before);
+        let answer = write_sheet(c.settings, c.frames, table, page);
+        wrote_agrees(c, answer) && agree_by(page, c.bytes, |i| self.page_after(i))
+    }
+
+    // Whether reading the record's bytes does to the table what the record says.
+    fn read_agrees(self, table: &mut [i32]) -> bool {
+        let c = self.case;
+        if c.frames > FRAMES_ROOM {
+            return false;
+        }
+        let new = ROW_SIZE * c.frames;
+        fill_by(table, table_before);
+        let answer = read_sheet(self.bytes, table);
+        got_agrees(c, answer) && agree_by(table, new, |i| self.table_after(new, i))
+    }
+
+    // A write with a table and a page of the lengths that it asks for. One that asks for too much does not agree.
+    fn write_case(self) -> bool {
+        let length = self.case.table;
+        let room = self.case.page;
+        if length > TABLE_ROOM || room > PAGE_ROOM {
+            return false;
+        }
+        let mut table = [0i32; TABLE_ROOM];
+        let mut page = [0u8; PAGE_ROOM];
+        self.written_agrees(&mut table[..length], &mut page[..room])
+    }
+
+    // A read of the record's bytes, all of them, with a table of the length that it asks for.
+    fn read_case(self) -> bool {
+        let length = self.case.table;
+        if length > TABLE_ROOM || self.case.page != self.case.bytes {
+            return false;
+        }
+        let mut table = [0i32; TABLE_ROOM];
+        self.read_agrees(&mut table[..length])
+    }
+
+    // Whether the call that the record names agrees.
+    fn agrees(self) -> bool {
+        match self.case.call {
+            Some(Call::Write) => self.write_case(),
+            Some(Call::Read) => self.read_case(),
+            None => false,
+        }
     }
 }
 
@@ -231,30 +210,28 @@ fn case_of(head: &[u8]) -> Case {
 }
 
 // Reads the rest of a record and tells whether the call agrees. A record that is cut short or too long does not.
-fn record_agrees<R: Read>(input: &mut R, c: Case) -> io::Result<bool> {
-    let numbers = c.numbers;
-    let bytes = c.bytes;
-    if numbers > TABLE_ROOM || bytes > PAGE_ROOM {
+fn record_agrees<R: Read>(input: &mut R, case: Case) -> io::Result<bool> {
+    if case.numbers > TABLE_ROOM || case.bytes > PAGE_ROOM {
         return Ok(false);
     }
-    let size = 4 * numbers + bytes;
-    let mut body = [0u8; BODY_ROOM];
-    let got = read_full(input, &mut body[..size])?;
-    if got != size {
-        return Ok(false);
-    }
-    Ok(case_agrees(&body, c))
+    let size = 4 * case.numbers;
+    let mut numbers = room::<u8, NUMBERS_ROOM>(0);
+    let mut bytes = room::<u8, PAGE_ROOM>(0);
+    let got = read_full(input, &mut numbers[..size])?;
+    let whole = got == size && read_full(input, &mut bytes[..case.bytes])? == case.bytes;
+    let record = Record {
+        case,
+        numbers: &numbers[..size],
+        bytes: &bytes[..case.bytes],
+    };
+    Ok(whole && record.agrees())
 }
 
 struct Sheets;
 
 impl Records<60, 20> for Sheets {
     fn kind(head: &[u8; 60]) -> Option<usize> {
-        let kind = byte_at(head, 0) as usize;
-        if kind >= 20 {
-            return None;
-        }
-        Some(kind)
+        kind_of(head, 20)
     }
 
     fn agrees<R: Read>(input: &mut R, head: &[u8; 60]) -> io::Result<bool> {
@@ -264,6 +241,7 @@ impl Records<60, 20> for Sheets {
     ghost few = { Prim.search rules };
 }
 
+// What stands here is the program's own: its records, the bytes of a head, how many kinds there are and how many records are read at most.
 fn main(rt: HostRuntime) -> io::Result<()> {
     let tallies = replay_input::<Sheets, 60, 20, _>(&mut rt.stdin(), 1000000)?;
     report(&mut rt.stdout(), &tallies)

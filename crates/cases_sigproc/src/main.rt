@@ -6,8 +6,7 @@
 
 ghost use Rattle.std.specs.Prelude.{◌≡◌, ◌≤◌, ◌<◌, length};
 
-use cases_io::{LIST_BYTES, i32_at, load, read_full, replay, same, u16_at};
-use rooms::room;
+use cases_io::{i32_at, load, over_list, replay, same, u16_at};
 use silk_sigproc::{silk_inner_prod_aligned, silk_pitch_xcorr, silk_sum_sqr_shift};
 use std::io;
 use std::io::Write;
@@ -110,6 +109,7 @@ fn size(case: &[u8]) -> usize {
 }
 
 // Replays the cases of one group.
+// A function of the program's own: one for every kind of case would take the finder of the kind, the answer and the size besides, for a closure of one line.
 fn replay_group<W: Write>(
     output: &mut W,
     list: &[u8],
@@ -117,27 +117,19 @@ fn replay_group<W: Write>(
     name: &[u8],
 ) -> io::Result<()> {
     replay(output, name, list, size, |case| {
-        if group_of(case) == Some(group) {
-            Some(agrees(group, case))
-        } else {
-            None
-        }
+        (group_of(case) == Some(group)).then(|| agrees(group, case))
     })
 }
 
-fn main(rt: HostRuntime) -> io::Result<()> {
-    let mut bytes = room::<u8, LIST_BYTES>(0);
-    let n = read_full(&mut rt.stdin(), &mut bytes)?;
-    let list = &bytes[..n];
-    let mut output = rt.stdout();
+// A line for each group.
+fn replay_all<W: Write>(output: &mut W, list: &[u8]) -> io::Result<()> {
     let padded = b"silk_pitch_xcorr, y followed by zeros";
-    replay_group(&mut output, list, Group::SumSqrShift, b"silk_sum_sqr_shift")?;
-    replay_group(
-        &mut output,
-        list,
-        Group::InnerProd,
-        b"silk_inner_prod_aligned",
-    )?;
-    replay_group(&mut output, list, Group::PitchXcorr, b"silk_pitch_xcorr")?;
-    replay_group(&mut output, list, Group::PaddedXcorr, padded)
+    replay_group(output, list, Group::SumSqrShift, b"silk_sum_sqr_shift")?;
+    replay_group(output, list, Group::InnerProd, b"silk_inner_prod_aligned")?;
+    replay_group(output, list, Group::PitchXcorr, b"silk_pitch_xcorr")?;
+    replay_group(output, list, Group::PaddedXcorr, padded)
+}
+
+fn main(rt: HostRuntime) -> io::Result<()> {
+    over_list(&mut rt.stdin(), |list| replay_all(&mut rt.stdout(), list))
 }

@@ -5,8 +5,7 @@
 ghost use Rattle.std.specs.Prelude.{◌≡◌, ◌+◌, ◌*◌};
 ghost use Rattle.cases_io.specs.Little.{u32_at};
 
-use cases_io::{LIST_BYTES, load, read_full, replay, same, u32_at};
-use rooms::room;
+use cases_io::{load, over_list, replay, same, u32_at};
 use silk_sort::silk_insertion_sort_decreasing_int16;
 use std::io;
 
@@ -40,10 +39,14 @@ fn size(case: &[u8]) -> usize
 }
 
 fn main(rt: HostRuntime) -> io::Result<()> {
-    let mut bytes = room::<u8, LIST_BYTES>(0);
-    let n = read_full(&mut rt.stdin(), &mut bytes)?;
     let name = b"silk_insertion_sort_decreasing_int16";
-    replay(&mut rt.stdout(), name, &bytes[..n], size, |case| {
-        Some(agrees(case))
+    over_list(&mut rt.stdin(), |list| {
+        replay(
+            &mut rt.stdout(),
+            name,
+            list,
+            size,
+            |case| Some(agrees(case)),
+        )
     })
 }

@@ -9,9 +9,8 @@ ghost use Rattle.refusals.specs.Refusals.{told};
 ghost use Rattle.cases_io.specs.Little.{u32_at, i32_at};
 ghost use Rattle.speech_threshold.specs.Threshold.{threshold_call, threshold_answer_numbers};
 
-use cases_io::{LIST_BYTES, i32_at, read_full, replay, u32_at};
+use cases_io::{i32_at, over_list, replay, u32_at};
 use refusals::Refusal;
-use rooms::room;
 use speech_threshold::Speech;
 use std::io;
 use std::io::Write;
@@ -24,7 +23,7 @@ enum Kind {
     Random,
 }
 
-// The kind of a case, or none where it is of no kind.
+// The kind of a case, or none where it is of no kind. The numbers are the list's own, so a match says which is which.
 fn kind_of(case: &[u8]) -> Option<Kind> {
     match i32_at(case, 0) {
         0 => Some(Kind::InRange),
@@ -61,28 +60,24 @@ fn agrees(case: &[u8]) -> bool
 }
 
 // Counts the cases of one kind and prints the line.
+// A function of the program's own: one for every kind of case would take the finder of the kind, the answer and the size besides, for a closure of one line.
 fn replay_kind<W: Write>(output: &mut W, list: &[u8], kind: Kind, name: &[u8]) -> io::Result<()> {
     replay(
         output,
         name,
         list,
         |_| 28,
-        |case| {
-            if kind_of(case) == Some(kind) {
-                Some(agrees(case))
-            } else {
-                None
-            }
-        },
+        |case| (kind_of(case) == Some(kind)).then(|| agrees(case)),
     )
 }
 
+// A line for each kind.
+fn replay_all<W: Write>(output: &mut W, list: &[u8]) -> io::Result<()> {
+    replay_kind(output, list, Kind::InRange, b"in range:")?;
+    replay_kind(output, list, Kind::OutOfRange, b"out of range:")?;
+    replay_kind(output, list, Kind::Random, b"random:")
+}
+
 fn main(rt: HostRuntime) -> io::Result<()> {
-    let mut bytes = room::<u8, LIST_BYTES>(0);
-    let n = read_full(&mut rt.stdin(), &mut bytes)?;
-    let mut output = rt.stdout();
-    let list = &bytes[..n];
-    replay_kind(&mut output, list, Kind::InRange, b"in range:")?;
-    replay_kind(&mut output, list, Kind::OutOfRange, b"out of range:")?;
-    replay_kind(&mut output, list, Kind::Random, b"random:")
+    over_list(&mut rt.stdin(), |list| replay_all(&mut rt.stdout(), list))
 }

@@ -6,7 +6,7 @@
 ghost use Rattle.std.specs.Prelude.{◌≤◌};
 ghost use Rattle.std.proofs.Common.{rules};
 
-use cases_io::{LIST_BYTES, Records, byte_at, read_full, replay_input, report, u32_at};
+use cases_io::{LIST_BYTES, Records, byte_at, kind_of, read_full, replay_input, report, u32_at};
 use recording_head::Head;
 use rooms::room;
 use std::io;
@@ -51,11 +51,10 @@ struct Cases;
 impl Records<5, 32> for Cases {
     // A body that is too long ends the list too.
     fn kind(head: &[u8; 5]) -> Option<usize> {
-        let kind = byte_at(head, 0) as usize;
-        if kind >= 32 || u32_at(head, 1) > 1048576 {
+        if u32_at(head, 1) > 1048576 {
             return None;
         }
-        Some(kind)
+        kind_of(head, 32)
     }
 
     fn agrees<R: Read>(input: &mut R, head: &[u8; 5]) -> io::Result<bool> {
@@ -66,6 +65,7 @@ impl Records<5, 32> for Cases {
     ghost few = { Prim.search rules };
 }
 
+// What stands here is the program's own: its records, the bytes of a head, how many kinds there are and how many records are read at most.
 fn main(rt: HostRuntime) -> io::Result<()> {
     let tallies = replay_input::<Cases, 5, 32, _>(&mut rt.stdin(), 100000)?;
     report(&mut rt.stdout(), &tallies)

@@ -7,8 +7,7 @@ ghost use Rattle.std.specs.Int.Signed.{quot_z};
 ghost use Rattle.std.specs.Int.{w32};
 ghost use Rattle.std.proofs.Common.{SFits};
 
-use cases_io::{LIST_BYTES, i32_at, read_full, replay};
-use rooms::room;
+use cases_io::{i32_at, over_list, replay};
 use silk_macros::{
     silk_add_sat16, silk_add_sat32, silk_clz_frac, silk_clz32, silk_div32, silk_div32_16,
     silk_div32_varq, silk_limit_32, silk_lin2log, silk_lshift, silk_lshift_sat32, silk_mul,
@@ -65,22 +64,6 @@ fn divides(a: i32, b: i32) -> bool
     true
 }
 
-fn div32_agrees(t: Case) -> bool {
-    if divides(t.a, t.b) {
-        silk_div32(t.a, t.b) == t.said
-    } else {
-        false
-    }
-}
-
-fn div32_16_agrees(t: Case) -> bool {
-    if divides(t.a, t.b) {
-        silk_div32_16(t.a, t.b) == t.said
-    } else {
-        false
-    }
-}
-
 // Whether the quotient is this one, or none where the divisor is 0.
 fn varq_agrees(t: Case, said: Option<i32>) -> bool {
     if t.c < 0 {
@@ -116,11 +99,7 @@ fn line<W: Write, A: Fn(Case) -> bool>(
         |_| 20,
         |bytes| {
             let case = case_of(bytes);
-            if case.operation == operation {
-                Some(agrees(case))
-            } else {
-                None
-            }
+            (case.operation == operation).then(|| agrees(case))
         },
     )
 }
@@ -200,8 +179,20 @@ fn replay_all<W: Write>(o: &mut W, list: &[u8]) -> io::Result<()> {
         b"silk_limit_32",
         |t| silk_limit_32(t.a, t.b, t.c) == t.said,
     )?;
-    line(o, list, 13, b"silk_div32", div32_agrees)?;
-    line(o, list, 14, b"silk_div32_16", div32_16_agrees)?;
+    line(
+        o,
+        list,
+        13,
+        b"silk_div32",
+        |t| divides(t.a, t.b) && silk_div32(t.a, t.b) == t.said,
+    )?;
+    line(
+        o,
+        list,
+        14,
+        b"silk_div32_16",
+        |t| divides(t.a, t.b) && silk_div32_16(t.a, t.b) == t.said,
+    )?;
     line(
         o,
         list,
@@ -269,7 +260,5 @@ fn replay_all<W: Write>(o: &mut W, list: &[u8]) -> io::Result<()> {
 }
 
 fn main(rt: HostRuntime) -> io::Result<()> {
-    let mut bytes = room::<u8, LIST_BYTES>(0);
-    let n = read_full(&mut rt.stdin(), &mut bytes)?;
-    replay_all(&mut rt.stdout(), &bytes[..n])
+    over_list(&mut rt.stdin(), |list| replay_all(&mut rt.stdout(), list))
 }

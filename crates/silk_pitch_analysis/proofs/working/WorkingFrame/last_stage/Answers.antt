@@ -1,6 +1,5 @@
 -- `WorkingFrame::last_stage` meets its contract.
-use Rattle.std.proofs.Common.{◌≡◌, refl, sym, ap, ◌∙◌, List, ℕ, ◌*◌, ◌/◌, mul-le-mul, arith, eq-eqb, ne_eqb, ℤ}
-use Rattle.std.specs.Prelude.{Option, Some, None, Ok, Err, ok_or}
+use Rattle.std.proofs.Common.{◌≡◌, refl, sym, ap, ◌∙◌, List, ℕ, ◌*◌, ◌/◌, mul-le-mul, arith, eq-eqb, ne_eqb, ℤ, Option, Some, None, Ok, Err, ok_or}
 use Rattle.std.proofs.lemmas.Result.{err_from_is_err_and}
 use Rattle.answers.specs.declared.NoPitch.{NoPitch}
 use Rattle.answers.specs.declared.NoPitch.TheVariants.{ZeroDivisor as ByZero}

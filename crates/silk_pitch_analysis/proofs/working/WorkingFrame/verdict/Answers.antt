@@ -1,10 +1,5 @@
 -- `WorkingFrame::verdict` meets its contract.
-use mathlib.Core.Path.{◌≡◌, sym, ap, ◌∙◌}
-use mathlib.Core.List.{List}
-use Prim.Native.Nat.{◌+◌, ◌*◌}
-use native.Mathlib.Omega.{arith}
-use lib.IntN.{ℤ, pos}
-use lib.ListN.{length, take, replicate}
+use Rattle.std.proofs.Common.{◌≡◌, sym, ap, ◌∙◌, List, ◌+◌, ◌*◌, arith, ℤ, pos, length, take, replicate, Result, Ok, Err, MatchResult}
 use Rattle.lists.specs.Fill.{overwritten}
 use Rattle.pitch_settings.specs.declared.Settings.{Settings}
 use Rattle.pitch_settings.specs.Settings.{settings_no, frame_length}
@@ -15,7 +10,6 @@ use Rattle.frame_signals.specs.Signals.{down_to_8khz, down_to_4khz}
 use Rattle.frame_signals.specs.SignalLaws.{take_overwritten}
 use Rattle.stage1.specs.Stage1.{stage1}
 use Rattle.silk_pitch_analysis.specs.declared.Verdict.{Verdict}
-use Rattle.std.specs.Prelude.{Result, Ok, Err, MatchResult}
 use Rattle.answers.specs.declared.NoPitch.{NoPitch}
 use Rattle.silk_pitch_analysis.specs.Steps.{verdict_without, verdict_from}
 use Rattle.silk_pitch_analysis.specs.Frame.{signal8, signal4, from_screen, staged}

@@ -1,2 +1,0 @@
--- Definitions: `Rooms`.
-pub mod Rooms
