@@ -59,7 +59,7 @@ fn divides(a: i32, b: i32) -> bool
         return false;
     }
     if b == -1 {
-        return a != -2147483648;
+        return a != i32::MIN;
     }
     true
 }

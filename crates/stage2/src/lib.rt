@@ -123,7 +123,7 @@ fn top_of(best: Option<BestLag>) -> i32
 {
     match best {
         Some(b) => b.top,
-        None => -2147483648,
+        None => i32::MIN,
     }
 }
 
@@ -269,7 +269,9 @@ pub fn search_stage2(
     let marks = kept.measured_lags();
     let mut c_8khz = [[0i16; 132]; 4];
     let nb_subfr = s.nb;
+    // k is the subframe.
     for k in 0..nb_subfr {
+        // Not by `map_err`: what its closure answers the caller's proof does not know.
         let Ok(row) = subframe_row(frame_8khz, k, &marks) else {
             return Err(NoPitch::ZeroDivisor);
         };

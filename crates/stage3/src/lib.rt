@@ -134,7 +134,7 @@ impl PairSearch {
         let first = self.start_lag();
         let end = self.end_lag() + 1;
         let mut best = BestSoFar {
-            top: -2147483648,
+            top: i32::MIN,
             lag: lag,
             contour: 0,
         };
