@@ -37,8 +37,7 @@ pub fn load_samples(bytes: &[u8], at: usize, out: &mut [i16])
     requires { at + 2 * length out.old ≤ length bytes.now }
     ensures { out.new ≡ samples_from bytes.now at (length out.old) }
 {
-    // by index: of what an adapter over `iter_mut` writes a proof knows nothing
-    for i in 0..out.len() {
-        out[i] = sample_at(bytes, at + 2 * i);
+    for (i, sample) in out.iter_mut().enumerate() {
+        *sample = sample_at(bytes, at + 2 * i);
     }
 }

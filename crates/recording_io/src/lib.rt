@@ -46,6 +46,7 @@ impl<T: Copy> From<Unread<T>> for Failure {
 }
 
 // What reading into a buffer brought, and how it ended: the buffer was full or the input at its end, or a read failed with this error.
+// A count beside the end, and no Result with it in both cases: it counts in both.
 #[derive(Drop)]
 pub struct Filled {
     pub count: usize,
@@ -121,29 +122,23 @@ pub fn read_whole<R: Read>(
     ensures bytes { (rest : List ℕ) × (length rest ≡ (so_far result).more) × Consumes (R.remaining input.old) (R.remaining input.new) (take (so_far result).count buf.new ++ rest) }
     ensures end { IfOk result (λ whole. whole.more < reads → IsAtEnd (R.remaining input.new)) }
 {
-    let count = match read_input(input, buf) {
-        Ok(count) => count,
-        Err(unread) => {
-            return Err(Unread {
-                so_far: Whole {
-                    count: unread.so_far,
-                    more: 0,
-                },
-            });
-        }
-    };
+    let count = read_input(input, buf).map_err(|unread| Unread {
+        so_far: Whole {
+            count: unread.so_far,
+            more: 0,
+        },
+    })?;
     if count < buf.len() {
         return Ok(Whole { count, more: 0 });
     }
-    match count_rest(input, reads) {
-        Ok(more) => Ok(Whole { count, more }),
-        Err(unread) => Err(Unread {
+    count_rest(input, reads)
+        .map(|more| Whole { count, more })
+        .map_err(|unread| Unread {
             so_far: Whole {
                 count,
                 more: unread.so_far,
             },
-        }),
-    }
+        })
 }
 
 // Reads the whole of the input into `buf`, and counts what does not fit; where a read failed, says so in the name of the program.

@@ -77,9 +77,10 @@ impl Analysis {
         requires { self.settings.settings.nb ≤ length out.old }
         ensures { out.new ≡ filled (lag_of self.settings.settings self.verdict) self.settings.settings.nb out.old }
     {
-        // k is the subframe; by index, since a proof knows nothing of what an adapter over `iter_mut` writes
-        for k in 0..self.settings.settings.nb {
-            out[k] = self.lag(k);
+        let places = &mut out[..self.settings.settings.nb];
+        // k is the subframe
+        for (k, lag) in places.iter_mut().enumerate() {
+            *lag = self.lag(k);
         }
     }
 }

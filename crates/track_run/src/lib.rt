@@ -27,7 +27,7 @@ fn deliver_parts(
     ensures table_after { table.new ≡ (chain track table.old (parts cuts.now samples.now)).table }
 {
     let mut at = 0;
-    // the answer by index: of what an adapter over `iter_mut` writes a proof knows nothing
+    // by index: `said` and `cuts` go together, and of what a `zip` with `iter_mut` writes a proof knows nothing
     for (i, &cut) in cuts.iter().enumerate() {
         let end = at + cut.min(samples.len() - at);
         let d = track.deliver(&samples[at..end], table);

@@ -5,4 +5,4 @@ use Rattle.silk_pitch_analysis.specs.Frame.{lag_of}
 use Rattle.silk_pitch_analysis.proofs.analysis.Analysis.put_lags.Given as goal
 
 abbrev pub invariant-loop-k : goal.invariant-loop-k
-invariant-loop-k l = l.out ≡ filled (lag_of l.self.settings.settings l.self.verdict) l.k l.initial.out
+invariant-loop-k l = l.places ≡ filled (lag_of l.self.settings.settings l.self.verdict) l.k l.initial.places
