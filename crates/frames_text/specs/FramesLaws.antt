@@ -32,7 +32,7 @@ module _ (b : List ℕ) where
   module _ (enough : record_head ≤ length b) where
     -- ---- refused settings
     module _ (w : ℕ) (e : w ≡ settings_no (input_settings b)) (wrong : w ≡ 0 → ⊥) where
-      no_wrong : w ≡ record_no b
+      pub no_wrong : w ≡ record_no b
       unfolding record_no
       no_wrong = rw (le-ltb (length b) record_head enough, ← e, ne_eqb w 0 wrong)
 

@@ -110,7 +110,11 @@ module _ (c : List ℤ) (d : List ℕ) (k : ℕ) (h : k ≤ length c) where
 
 -- ---- the answer, from the arrays that the sort leaves
 
--- at most eight places are searched
+-- at least one place is searched, and at most eight
+pub search_length_some : (cx : ℕ) → 0 < search_length cx
+unfolding search_length
+search_length_some cx = omega arith
+
 pub search_length_few : {cx : ℕ} → cx < 3 → search_length cx ≤ 8
 unfolding search_length
 search_length_few small = omega arith

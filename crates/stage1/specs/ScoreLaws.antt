@@ -1,5 +1,5 @@
 -- Laws of stage 1's correlations and scores.
-use Rattle.std.specs.Prelude.{Option, Some, None, ◌≡◌, refl, Bool, true, ◌⊎◌, ℕ, suc, ◌+◌, ◌-◌, ◌*◌, ◌/◌, ◌≤◌, ◌<◌, ℤ, pos, ◌-ℤ◌, ◌*ℤ◌, drop, replicate, false, cond, List, ◌+ℤ◌, eqb, get_or}
+use Rattle.std.specs.Prelude.{Option, Some, None, ◌≡◌, refl, Bool, true, ◌⊎◌, ℕ, suc, ◌+◌, ◌-◌, ◌*◌, ◌/◌, ◌≤◌, ◌<◌, ℤ, pos, ◌-ℤ◌, ◌*ℤ◌, length, drop, replicate, false, cond, List, ◌+ℤ◌, eqb, get_or}
 use Rattle.std.proofs.Common.{◌∙◌, ⊎_elim, lit<, lit≤, drop-drop, sym, ap, ap₂, arith}
 use Rattle.std.proofs.Math.Decide.{dec_lt}
 use Rattle.std.specs.Int.{w16, w32}
@@ -104,7 +104,10 @@ module _ (f : List ℤ) (h : ℕ) where
 
 -- ---- the scores
 
--- there is one half-frame or there are two
+-- there is one half-frame or there are two, within the signal
+pub first_fits : {nb : ℕ} (f : List ℤ) → (nb ≡ 2) ⊎ (nb ≡ 4) → (20 + 5 * nb) * 4 ≤ length f → 120 ≤ length f
+first_fits {nb} f s l = ⊎_elim (λ (e : nb ≡ 2). omega arith) (λ (e : nb ≡ 4). omega arith) s
+
 pub one_or_two : {nb : ℕ} → (nb ≡ 2) ⊎ (nb ≡ 4) → (nb ≡ 4 → ⊥) → nb ≡ 2
 one_or_two s g = ⊎_elim (λ e. e) (λ e. absurd (g e)) s
 
