@@ -1,7 +1,5 @@
 -- `Analysis::put_lags` meets its contract.
-use Rattle.std.proofs.Common.{◌≡◌, ap, ◌∙◌, arith, length-take-le, sym}
-use Rattle.std.specs.Prelude.{ℕ, List, ◌++◌, ◌≤◌, length, take, drop}
-use Rattle.std.specs.Int.{w32}
+use Rattle.std.proofs.Common.{◌≡◌, ap, ◌∙◌, arith, length-take-le, sym, ℕ, List, ◌++◌, ◌≤◌, length, take, drop, w32}
 use Rattle.zint.specs.ReadLaws.{r_got}
 use Rattle.lists.specs.Fill.{tabulate, filled}
 use Rattle.lists.specs.FillLaws.{filled_none, filled_turn, filled_all}
