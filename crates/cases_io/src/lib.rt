@@ -65,6 +65,7 @@ pub fn byte_at(bytes: &[u8], at: usize) -> u8
 }
 
 // The number of two bytes at `at`, without sign.
+// Here and in the next two the type, its bytes and the law of its value differ; one function over the number of bytes would stand beside all three, and ask that there are few.
 #[tactic(auto, using(crate::specs::LittleLaws::two_bytes))]
 pub fn u16_at(bytes: &[u8], at: usize) -> u16
     ensures { result ≡ u16_at bytes.now at }

@@ -88,6 +88,7 @@ fn print_frames<R: Read, W: Write, E: Write>(
     Ok(())
 }
 
+// The streams are handed over in each main: what those of a process hold no contract can say, so a function that took them itself would promise nothing.
 fn main(rt: HostRuntime) {
     let _ = print_frames(&mut rt.stdin(), &mut rt.stdout(), &mut rt.stderr());
 }

@@ -36,6 +36,7 @@ fn print_sheet<R: Read, W: Write, E: Write>(
     write_output(output, errors, b"sheet_read", &out[..r])
 }
 
+// The streams are handed over in each main: what those of a process hold no contract can say, so a function that took them itself would promise nothing.
 fn main(rt: HostRuntime) {
     let _ = print_sheet(&mut rt.stdin(), &mut rt.stdout(), &mut rt.stderr());
 }
