@@ -205,6 +205,7 @@ pub fn load<T: Little>(bytes: &[u8], at: usize, out: &mut [T])
 }
 
 // Whether xs are the numbers from `at` on.
+// A loop and not `enumerate().all(..)`, which was tried: std has no law of the two together, and what the loop returns stayed open.
 pub fn same<T: Little>(bytes: &[u8], at: usize, xs: &[T]) -> bool
     ensures { result ≡ agree T.eq (numbers_at T.value_at T.SIZE bytes.now at) xs.now (length xs.now) }
 {
@@ -242,6 +243,7 @@ pub fn same_settings(a: Settings, b: Settings) -> bool
 }
 
 // A count after one case more, which counts or does not.
+// The flag is the definition's: a case that counts, or not.
 #[tactic(auto, unfolding(crate::specs::Counts::counted))]
 fn counted(n: u64, counts: bool) -> u64
     ensures { result ≡ counted counts n }

@@ -74,6 +74,7 @@ fn check(bytes: &[u8]) -> Result<Analysed, Refusal>
 }
 
 // The subframe count and the row of a record, or its refusal. The record's samples are left in the first places of `samples`, by a refusal nothing.
+// The room is a slice of at least so many places, here and below: an array would ask more of callers.
 fn record_row(bytes: &[u8], samples: &mut [i16]) -> Result<(usize, Row), Refusal>
     requires { longest_frame ≤ length samples.old }
     ensures number { number_told result ≡ record_no bytes.now }

@@ -86,6 +86,7 @@ fn check(input: RecordedInput) -> Result<(), Refusal>
 
 // Judges an input: refusals 10, then 1, 2, 3, then 11 where the second threshold comes from the speech, then 6 over the frames that a program takes, then 9 for options that are not known. An
 // input that is taken leaves its samples in the first places of `samples`; a refusal leaves them all.
+// The room is a slice of at least so many places: an array would ask more of callers.
 pub fn take_recording(input: RecordedInput, samples: &mut [i16]) -> Result<Recording, Refusal>
     requires { recording_samples ≤ length samples.old }
     ensures { (rest : List ℕ) → length rest ≡ input.entry.more → take_outcome (told result) samples.new ≡ take_call input.entry.head (input.entry.bytes.now ++ rest) samples.old }

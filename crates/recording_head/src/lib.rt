@@ -73,6 +73,7 @@ fn speech_in(bytes: &[u8], at: usize) -> Speech
 }
 
 // The second threshold of the kind with this number, in the four bytes from `at` on: a fixed one where no kind has it.
+// Whether four bytes stand there is a bound of a place.
 fn second_in(number: u8, bytes: &[u8], at: usize) -> SecondThreshold
     requires { at + 4 ≤ length bytes.now }
     ensures { result ≡ second_in number bytes.now at }

@@ -79,6 +79,7 @@ fn analyse(frame: &[i16], s: Analysed, prev: Previous) -> Verdict
 }
 
 // The row of the first N samples, of settings that are known to be analysed and with the samples of a frame: it is never refused.
+// The samples are the caller's, so that there are enough is said at each of the functions that begin with them.
 #[tactic(auto, unfolding(crate::specs::Frame::frame_row))]
 pub fn analysed_row(s: Analysed, x: &[i16], prev: Previous) -> Row
     requires { frame_length s.settings ≤ length x.now }

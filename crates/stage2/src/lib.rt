@@ -165,6 +165,7 @@ struct Search8khz<'c, 'k> {
     pub ghost in_codebook: { by.contours ≤ entries2 by.nb },
 }
 
+// A lag is a plain number, with its bounds at each method: a type for it would be made anew at each turn of the search.
 impl Search8khz<'_, '_> {
     // The correlations along contour j of the lag d, added up over the subframes. By the subframe as a number, since the codebook is asked for it too.
     fn contour_sum(&self, d: usize, j: usize) -> i32

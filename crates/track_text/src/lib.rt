@@ -66,6 +66,7 @@ fn put_report(recorded: RecordedTrack, table: &mut [i32], out: &mut [u8]) -> usi
 
 // The text for an input, in the first bytes of `out`; how many they are. The input's samples are left in the first places of
 // `samples` and its rows in the first rows of `table`, by a refusal nothing; all else stays.
+// The rooms are slices of at least so many places: arrays would ask more of callers. What is taken and what is refused is all that this shares with a sheet's bytes.
 pub fn track_text(
     input: RecordedInput,
     samples: &mut [i16],
