@@ -7,6 +7,7 @@ ghost use Rattle.stage2_correlations.specs.Marks.{near, marked, listed, measured
 
 use crate::MIN_LAG_8KHZ;
 use silk_tables::MAX_LAG_8KHZ;
+use std::array;
 
 // The lags at 4 kHz that stage 1 kept: at most 8, each from 8 to 72.
 #[derive(Clone, Copy)]
@@ -33,7 +34,7 @@ impl KeptLags<'_> {
         requires { (d ≤ 145) × ((below ≤ 2) × (above ≤ 3)) }
         ensures { result ≡ marked self.entry.lags.now below above low high d }
     {
-        low <= d && d <= high && self.is_near(d, below, above)
+        (low..=high).contains(&d) && self.is_near(d, below, above)
     }
 
     // Whether stage 2 can choose the lag d: it lies within 1 of the double of a kept lag, and within 16 to 143.
@@ -58,10 +59,6 @@ impl KeptLags<'_> {
     pub fn measured_lags(self) -> [bool; 132]
         ensures { result ≡ tabulate (λ (i : ℕ). measured self.entry.lags.now (14 + i)) 132 }
     {
-        let mut marks = [false; 132];
-        for i in 0..132 {
-            marks[i] = self.is_measured(14 + i);
-        }
-        marks
+        array::from_fn(|i| self.is_measured(14 + i))
     }
 }

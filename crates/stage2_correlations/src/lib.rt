@@ -65,9 +65,9 @@ pub fn subframe_row(
     let mut energy_basis = energy_of_40(frame_8khz, target - 14);
     let mut c_8khz = [0i16; 132];
     let mut zero = false;
-    for i in 0..132 {
+    for (i, &marked) in marks.iter().enumerate() {
         let norm = wrapping_add_i32(energy_target, energy_basis);
-        let at = correlate(marks[i], frame_8khz, target, 14 + i, norm);
+        let at = correlate(marked, frame_8khz, target, 14 + i, norm);
         c_8khz[i] = at.unwrap_or(0);
         if at.is_none() {
             zero = true;

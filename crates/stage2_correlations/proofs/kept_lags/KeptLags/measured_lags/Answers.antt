@@ -1,20 +1,30 @@
 -- `stage2_correlations::KeptLags::measured_lags` meets its contract.
-use Rattle.std.proofs.Common.{◌≡◌, ap, ◌∙◌, false, ℕ, ◌+◌, lit≤, replicate, arith}
-use Rattle.lists.specs.Fill.{filled}
-use Rattle.lists.specs.FillLaws.{filled_none, filled_turn, filled_all}
+use Rattle.std.proofs.Common.{rules, ◌≡◌, refl, sym, ap, subst, ◌∙◌, arith, ℕ, zero, suc, ◌+◌, ◌≤◌, ◌<◌, List, false}
+use Rattle.std.proofs.Math.Decide.{dec_lt}
+use denote.Param.Members.{Mut, Called}
+use Rattle.std.specs.Array.{IsFromFnResultFrom}
+use Rattle.std.proofs.Math.ListN.{get_or}
+use Rattle.lists.specs.FillLaws.{tabulate_is}
 use Rattle.stage2_correlations.specs.Marks.{measured}
 use Rattle.stage2_correlations.proofs.kept_lags.KeptLags.measured_lags.Goals as goal
 
-pub loop-i-init : goal.loop-i-init
-loop-i-init c = (omega arith, filled_none _ _)
-
-pub loop-i-preserved : goal.loop-i-preserved
-loop-i-preserved c =
-    let a = c.args in
-    (omega arith, filled_turn (λ (q : ℕ). measured a.self.lags.now (14 + q)) c.loop-i.i (replicate 132 false) c.loop-i.invariant.1 c.is_measured.ensures (omega arith))
+-- what calls at each number from i on gave, where every call gives h of its number and keeps J
+module _ {F B : Type 0} (g : Mut F (ℕ × Unit {0}) B) (h : ℕ → B) (J : F → Type 0) (says : (p : F) (i : ℕ) (y : B) (q : F) → J p → Called g p (i, tt) y q → (h i ≡ y) × J q) (ys : List B) (d : B) where
+  given_from : (n i : ℕ) (f : F) → J f → IsFromFnResultFrom g f ys i n → (k : ℕ) → i ≤ k → k < i + n → h k ≡ get_or ys k d
+  given_from zero i f j r k a b = absurd (omega arith)
+  given_from (suc n) i f j (q, y, e, called, rest) k a b =
+      let told = says f i y q j called in
+      by_case (told.0 ∙ sym (e.1 d)) (λ l. given_from n (i + 1) q told.1 rest k l (omega arith)) (dec_lt i k)
+    where
+      by_case : h i ≡ get_or ys i d → (i + 1 ≤ k → h k ≡ get_or ys k d) → Dec (i < k) → h k ≡ get_or ys k d
+      by_case here later (yes l) = later (omega arith)
+      by_case here later (no m) =
+          let same : i ≡ k = omega arith in
+          subst (λ (t : ℕ). h t ≡ get_or ys t d) same here
 
 pub returns : goal.returns
 returns c =
-    let a = c.args in
-    let e : c.loop-i.i ≡ 132 = omega arith in
-    c.loop-i.invariant.1 ∙ ap (λ (n : ℕ). filled (λ (q : ℕ). measured a.self.lags.now (14 + q)) n (replicate 132 false)) e ∙ filled_all (λ (q : ℕ). measured a.self.lags.now (14 + q)) 132 (replicate 132 false) (lit≤ tt)
+    let made = c.from_fn.ensures.items in
+    let kept = c.args.self.lags.now in
+    sym (tabulate_is (λ (i : ℕ). measured kept (14 + i)) 132 c.from_fn.result false (sym made.long)
+    (λ k h. given_from _ (λ (i : ℕ). measured kept (14 + i)) (λ f. f.0.now.lags.now ≡ kept) (λ p i y q j e. let told : measured p.0.now.lags.now (14 + i) ≡ y = search rules in (ap (λ (l : List ℕ). measured l (14 + i)) (sym j) ∙ told, search rules)) c.from_fn.result false 132 0 _ refl made.each k (omega arith) h))
