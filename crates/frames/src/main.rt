@@ -2,8 +2,9 @@
 // it prints). A record that is cut or refused is the last. Where a read fails it prints nothing more; that, or a failed write, it says in a line on standard error.
 #![tactic(auto)]
 
-ghost use Rattle.std.specs.Prelude.{◌≡◌, ◌≤◌, take, length, IfOk, IfSome, OnOk};
+ghost use Rattle.std.specs.Prelude.{◌≤◌, take, length, IfOk, IfSome, OnOk};
 ghost use Rattle.std.specs.Io.KnownBytes.{Appends};
+ghost use Rattle.std.specs.ControlFlow.{ForBreak, ForContinue};
 ghost use Rattle.recording_io.specs.Counts.{IsPrefixLen};
 ghost use Rattle.recording_io.specs.ReadAnswer.{most_reads};
 ghost use Rattle.frames.specs.Output.{frames_output, RecordRead, LinePrinted, AllPrinted};
@@ -17,6 +18,7 @@ use pitch_text::ROW_TEXT_BYTES;
 use recording_io::{EVERY, Failure, read_input, say_unread, write_output};
 use rooms::room;
 use std::io::{Read, Write};
+use std::ops::ControlFlow;
 
 // Reads a record: the bytes before its samples and as many more as they ask for, or what there is of them.
 fn read_record<R: Read>(input: &mut R, bytes: &mut [u8]) -> Result<usize, Failure>
@@ -30,15 +32,7 @@ fn read_record<R: Read>(input: &mut R, bytes: &mut [u8]) -> Result<usize, Failur
     Ok(head + rest)
 }
 
-// What became of a record: its line was printed and more may follow, or it was the last, at the end of the input or refused. An enum of its own, since a flag or an Option would not say which
-// of the two ends the loop.
-#[derive(Clone, Copy)]
-enum Printed {
-    More,
-    Last,
-}
-
-// Reads a record and prints its line or its refusal. Nothing follows a read or a write that failed.
+// Reads a record and prints its line or its refusal; after it more may follow, or it was the last, at the end of the input or refused. Nothing follows a read or a write that failed.
 fn print_record<R: Read, W: Write, E: Write>(
     input: &mut R,
     output: &mut W,
@@ -46,23 +40,23 @@ fn print_record<R: Read, W: Write, E: Write>(
     bytes: &mut [u8],
     samples: &mut [i16],
     out: &mut [u8],
-) -> Result<Printed, Failure>
+) -> Result<ControlFlow<()>, Failure>
     requires { (longest_record ≤ length bytes.old) × (longest_frame ≤ length samples.old) × (row_text_bytes ≤ length out.old) }
-    ensures more { result ≡ Ok Printed.More → IfSome (R.remaining input.old) (λ xs. LinePrinted xs (W.contents output.old) (W.contents output.new) (R.remaining input.new)) }
-    ensures last { result ≡ Ok Printed.Last → IfSome (R.remaining input.old) (λ xs. AllPrinted xs (W.contents output.old) (W.contents output.new)) }
+    ensures more { IfOk result (λ printed. ForContinue printed (λ _. IfSome (R.remaining input.old) (λ xs. LinePrinted xs (W.contents output.old) (W.contents output.new) (R.remaining input.new)))) }
+    ensures last { IfOk result (λ printed. ForBreak printed (λ _. IfSome (R.remaining input.old) (λ xs. AllPrinted xs (W.contents output.old) (W.contents output.new)))) }
 {
     let Ok(n) = read_record(input, bytes) else {
         say_unread(errors, b"frames");
         return Err(Failure::Reading);
     };
     if n == 0 {
-        return Ok(Printed::Last);
+        return Ok(ControlFlow::Break(()));
     }
     let line = frame_text(&bytes[..n], samples, out);
     write_output(output, errors, b"frames", &out[..line.len])?;
     match line.answer {
-        Ok(()) => Ok(Printed::More),
-        Err(_) => Ok(Printed::Last),
+        Ok(()) => Ok(ControlFlow::Continue(())),
+        Err(_) => Ok(ControlFlow::Break(())),
     }
 }
 
@@ -81,8 +75,8 @@ fn print_frames<R: Read, W: Write, E: Write>(
     for _ in 0..EVERY {
         let printed = print_record(input, output, errors, &mut bytes, &mut samples, &mut out)?;
         match printed {
-            Printed::More => {}
-            Printed::Last => return Ok(()),
+            ControlFlow::Continue(()) => {}
+            ControlFlow::Break(()) => return Ok(()),
         }
     }
     Ok(())

@@ -14,7 +14,7 @@ use pitch_table::Row;
 use pitch_text::{put_refusal, put_row_text};
 use refusals::Refusal;
 use sheet_bytes::i32_at;
-use silk_pitch_analysis::frame_row;
+use silk_pitch_analysis::{Previous, analysed_row};
 
 // Where the previous lag and the previous correlation stand: after the settings.
 const LAG_AT: usize = HEAD_SIZE;
@@ -86,8 +86,8 @@ fn record_row(bytes: &[u8], samples: &mut [i16]) -> Result<(usize, Row), Refusal
     load_samples(bytes, RECORD_HEAD, &mut samples[..n]);
     let lag = i32_at(bytes, LAG_AT);
     let correlation = i32_at(bytes, CORRELATION_AT);
-    let row = frame_row(s.settings, &samples[..n], lag, correlation)?;
-    Ok((s.settings.nb, row))
+    let prev = Previous { lag, correlation };
+    Ok((s.settings.nb, analysed_row(s, &samples[..n], prev)))
 }
 
 // The record's line or its refusal, in the first bytes of `out`. The record's samples are left in the first places of `samples`, by a refusal nothing; all else stays.

@@ -1,5 +1,6 @@
 -- `frames_text::record_row` meets its contract.
-use Rattle.std.proofs.Common.{◌≡◌, refl, List, ℕ, ℤ, ◌++◌, ◌+◌, ◌*◌, ◌≤◌, length, take, drop, length-append, length-take-le, sym, ap, ◌∙◌, arith, Result, Ok, Err, w32}
+use Rattle.std.proofs.Common.{◌≡◌, refl, List, ℕ, ℤ, ◌++◌, ◌+◌, ◌*◌, ◌≤◌, length, take, drop, length-append, length-take-le, take_all, sym, ap, ◌∙◌, arith}
+use mir.Syntax.{w32}
 use Rattle.zint.specs.ReadLaws.{r_got}
 use Rattle.lists.specs.Fill.{overwritten}
 use Rattle.refusals.specs.Refusals.{refusal_number}
@@ -9,8 +10,7 @@ use Rattle.pitch_settings.specs.Settings.{settings_no, frame_length, longest_fra
 use Rattle.pitch_settings.specs.SettingsLaws.{accepted_settings}
 use Rattle.pitch_table.specs.declared.Row.{Row}
 use Rattle.sheet_bytes.specs.Bytes.{signed_at}
-use Rattle.silk_pitch_analysis.specs.Frame.{row_answer}
-use Rattle.silk_pitch_analysis.specs.FrameLaws.{row_whole, one_row, no_refusal}
+use Rattle.silk_pitch_analysis.specs.Frame.{frame_row}
 use Rattle.pitch_input.specs.Input.{head_size, input_settings, samples_from}
 use Rattle.pitch_input.specs.InputLaws.{loaded, loaded_over, length_samples}
 use Rattle.frames_text.specs.Frames.{record_head, record_size, record_no, record_samples, record_row}
@@ -51,12 +51,14 @@ module _ (b : List ℕ) (right : 0 ≡ record_no b) where
           whole_is = loaded_over b record_head n x out room l ∙ ap (λ (m : ℕ). overwritten (samples_from b record_head m) x) size
 
           -- what is said of the frame: the record's row
-          said : {lag correlation : ℤ} {r : Result Row ℕ} → lag ≡ signed_at b head_size → correlation ≡ signed_at b (head_size + 4) → r ≡ row_answer s (take n (out ++ drop n x)) lag correlation → r ≡ Ok (record_row b)
+          said : {lag correlation : ℤ} {r : Row} → lag ≡ signed_at b head_size → correlation ≡ signed_at b (head_size + 4)
+              → r ≡ frame_row s (take (frame_length s) (take n (out ++ drop n x))) lag correlation → r ≡ record_row b
           unfolding record_row record_samples
           said {lag} {correlation} el ec er =
+              let m = length_samples b record_head (frame_length (input_settings b)) in
               er
-              ∙ (λ i. row_answer (t i) (x_is i) (el i) (ec i))
-              ∙ row_whole (input_settings b) (samples_from b record_head (frame_length (input_settings b))) _ _ all.known (length_samples _ record_head _)
+              ∙ (λ i. frame_row (t i) (take (frame_length (t i)) (x_is i)) (el i) (ec i))
+              ∙ ap (λ (y : List ℤ). frame_row (input_settings b) y (signed_at b head_size) (signed_at b (head_size + 4))) (take_all (frame_length (input_settings b)) (samples_from b record_head (frame_length (input_settings b))) (omega (arith, m)))
 
 pub returns-in_err-s-clause-samples : goal.returns-in_err-s-clause-samples
 returns-in_err-s-clause-samples c =
@@ -80,25 +82,18 @@ i32_at-lag-requires c = omega (arith, (all c.args.bytes.now c.in_ok-s.ensures.nu
 pub i32_at-correlation-requires : goal.i32_at-correlation-requires
 i32_at-correlation-requires c = omega (arith, (all c.args.bytes.now c.in_ok-s.ensures.number).enough)
 
-pub slice_bounds-frame_row-end : goal.slice_bounds-frame_row-end
-slice_bounds-frame_row-end c = filled c.args.bytes.now c.in_ok-s.ensures.number c.in_ok-s.ensures.settings c.frame_length-n.ensures c.args.samples.now c.requires c.load_samples.ensures
+pub slice_bounds-analysed_row-end : goal.slice_bounds-analysed_row-end
+slice_bounds-analysed_row-end c = filled c.args.bytes.now c.in_ok-s.ensures.number c.in_ok-s.ensures.settings c.frame_length-n.ensures c.args.samples.now c.requires c.load_samples.ensures
 
-pub slice_bounds-frame_row-end-2 : goal.slice_bounds-frame_row-end-2
-slice_bounds-frame_row-end-2 c = sym (length-take-le _ _ (filled c.args.bytes.now c.in_ok-s.ensures.number c.in_ok-s.ensures.settings c.frame_length-n.ensures c.args.samples.now c.requires c.load_samples.ensures))
+pub slice_bounds-analysed_row-end-2 : goal.slice_bounds-analysed_row-end-2
+slice_bounds-analysed_row-end-2 c = sym (length-take-le _ _ (filled c.args.bytes.now c.in_ok-s.ensures.number c.in_ok-s.ensures.settings c.frame_length-n.ensures c.args.samples.now c.requires c.load_samples.ensures))
 
-pub returns-in_err-row-clause-number : goal.returns-in_err-row-clause-number
-returns-in_err-row-clause-number c =
-    let n = refusal_number c.in_err-row.field-0.0 in
-    absurd (no_refusal (Err n) _ n (said c.args.bytes.now c.in_ok-s.ensures.number c.in_ok-s.ensures.settings c.frame_length-n.ensures c.args.samples.now c.requires c.load_samples.ensures (r_got w32 c.i32_at-lag.type_inv c.i32_at-lag.ensures).val (r_got w32 c.i32_at-correlation.type_inv c.i32_at-correlation.ensures).val c.in_err-row.ensures.answer) refl)
-
-pub returns-in_err-row-clause-samples : goal.returns-in_err-row-clause-samples
-returns-in_err-row-clause-samples c =
-    let n = refusal_number c.in_err-row.field-0.0 in
-    absurd (no_refusal (Err n) _ n (said c.args.bytes.now c.in_ok-s.ensures.number c.in_ok-s.ensures.settings c.frame_length-n.ensures c.args.samples.now c.requires c.load_samples.ensures (r_got w32 c.i32_at-lag.type_inv c.i32_at-lag.ensures).val (r_got w32 c.i32_at-correlation.type_inv c.i32_at-correlation.ensures).val c.in_err-row.ensures.answer) refl)
+pub analysed_row-requires : goal.analysed_row-requires
+analysed_row-requires c = rw (length-take-le _ _ (filled c.args.bytes.now c.in_ok-s.ensures.number c.in_ok-s.ensures.settings c.frame_length-n.ensures c.args.samples.now c.requires c.load_samples.ensures)) (omega (arith, c.frame_length-n.ensures))
 
 pub returns-clause-row : goal.returns-clause-row
 returns-clause-row c =
-    let row = one_row (Ok c.in_ok-row.row) _ _ refl (said c.args.bytes.now c.in_ok-s.ensures.number c.in_ok-s.ensures.settings c.frame_length-n.ensures c.args.samples.now c.requires c.load_samples.ensures (r_got w32 c.i32_at-lag.type_inv c.i32_at-lag.ensures).val (r_got w32 c.i32_at-correlation.type_inv c.i32_at-correlation.ensures).val c.in_ok-row.ensures.answer) in
+    let row = said c.args.bytes.now c.in_ok-s.ensures.number c.in_ok-s.ensures.settings c.frame_length-n.ensures c.args.samples.now c.requires c.load_samples.ensures (r_got w32 c.i32_at-lag.type_inv c.i32_at-lag.ensures).val (r_got w32 c.i32_at-correlation.type_inv c.i32_at-correlation.ensures).val c.analysed_row.ensures in
     (ap (λ (s : Settings). s.nb) c.in_ok-s.ensures.settings, row)
 
 pub returns-clause-samples : goal.returns-clause-samples
