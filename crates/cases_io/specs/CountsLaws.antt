@@ -1,11 +1,16 @@
 -- Laws of the counts: one tally more of the sums, which go round; settings are found the same exactly where they are equal.
-use Rattle.std.specs.Prelude.{◌≡◌, ℕ, ◌+◌, ◌%◌, ◌^◌, true, List, [], ◌++◌, ◌∷◌, ℤ, ◌==◌, refl, sum_by}
-use Rattle.std.proofs.Common.{sym, ap, ap₂, ◌∙◌, eqb-true, eq-eqb}
+use Rattle.std.specs.Prelude.{◌≡◌, ℕ, ◌+◌, ◌%◌, ◌^◌, Bool, true, false, FitsSigned, List, [], ◌++◌, ◌∷◌, ℤ, ◌==◌, refl, sum_by}
+use Rattle.std.proofs.Common.{sym, ap, ap₂, ◌∙◌, eqb-true, eq-eqb, to_z, of_z}
 use Rattle.std.proofs.Math.Nat.{mod-add-mod}
+use Rattle.std.proofs.lemmas.Bool.{eqb-false}
 use Rattle.std.proofs.lemmas.List.Sums.{sum_by_push}
 use Rattle.std.proofs.lemmas.Bool.Decides.{Decides-int_eq}
+use Rattle.std.specs.Int.{w32}
 use Rattle.std.specs.Ordering.{int_eq}
 use Rattle.zint.specs.BoolLaws.{and_left, and_right}
+use Rattle.zint.specs.Equal.{eq_z}
+use Rattle.zint.specs.EqualLaws.{eq_z_yes, eq_z_no}
+use Rattle.zint.specs.ReadLaws.{r_var}
 use Rattle.pitch_settings.specs.declared.Settings.{Settings}
 use Rattle.cases_io.specs.declared.Tally.{Tally}
 use Rattle.cases_io.specs.Counts.{same_settings, tally, tally_plus, totals_of}
@@ -24,6 +29,14 @@ totals_next ts t = ap₂ tally (turn (λ (u : Tally). u.agreed)) (turn (λ (u : 
     turn n = mod-add-mod (sum_by n ts) (2 ^ 64) (n t) ∙ ap (λ (s : ℕ). s % 2 ^ 64) (sym (sum_by_push n ts t))
 
 -- ---- settings
+-- two numbers whose bits are compared
+pub bits_eqb : {a b : ℤ} → FitsSigned w32 a → FitsSigned w32 b → (of_z w32 a == of_z w32 b) ≡ eq_z a b
+bits_eqb {a} {b} f g = by (of_z w32 a == of_z w32 b) refl
+  where
+    by : (t : Bool) → (of_z w32 a == of_z w32 b) ≡ t → t ≡ eq_z a b
+    by true e = sym (eq_z_yes (sym (r_var f).val ∙ ap (to_z w32) (eqb-true (of_z w32 a) (of_z w32 b) e) ∙ (r_var g).val))
+    by false e = sym (eq_z_no (λ h. eqb-false (of_z w32 a) (of_z w32 b) e (ap (of_z w32) h)))
+
 -- equal settings are found the same
 pub same_yes : (s : Settings) → same_settings s s ≡ true
 unfolding same_settings

@@ -1,5 +1,5 @@
 -- Laws of little-endian numbers: past the end they are 0, so that a place may be cut to the end; and one element more of a load and of a comparison.
-use Rattle.std.specs.Prelude.{◌≡◌, ℕ, zero, suc, ◌+◌, ◌<◌, ◌≤◌, min, Bool, true, false, ◌&&◌, List, [], ◌∷◌, length, ◌*◌, pos, Some, slice_get, slice_index, slice_set, refl}
+use Rattle.std.specs.Prelude.{◌≡◌, ℕ, zero, suc, ◌+◌, ◌<◌, ◌≤◌, min, Bool, true, false, ◌&&◌, List, [], ◌∷◌, length, ◌*◌, pos, Some, None, slice_get, slice_index, slice_set, refl}
 use Rattle.std.proofs.Math.Bool.{and-false}
 use Rattle.std.specs.Int.{w16, w32, w64, from_le_bytes}
 use Rattle.std.proofs.Common.{sym, ap, ap₂, ◌∙◌, subst, add-one, arith, length-set}
@@ -114,6 +114,19 @@ module _ {A : Type 0} where
         by_case rec (no m) =
             let same : k ≡ n = omega arith in
             let last : is_number eq (f n) (slice_get ys n) ≡ false = subst (λ (j : ℕ). is_number eq (f j) (slice_get ys j) ≡ false) same (ap (is_number eq (f k)) q ∙ ap (eq y) (sym r) ∙ e) in
+            ap (λ (b : Bool). agree eq f ys n && b) last ∙ and-false (agree eq f ys n)
+
+    -- where there is no element
+    pub agree_past : (k n : ℕ) → k < n → slice_get ys k ≡ None → agree eq f ys n ≡ false
+    unfolding agree is_number
+    agree_past k zero h q = absurd (omega arith)
+    agree_past k (suc n) h q = by_case (λ l. agree_past k n l q) (dec_lt k n)
+      where
+        by_case : (k < n → agree eq f ys n ≡ false) → Dec (k < n) → (agree eq f ys n && is_number eq (f n) (slice_get ys n)) ≡ false
+        by_case rec (yes l) = ap (λ (a : Bool). a && is_number eq (f n) (slice_get ys n)) (rec l)
+        by_case rec (no m) =
+            let same : k ≡ n = omega arith in
+            let last : is_number eq (f n) (slice_get ys n) ≡ false = subst (λ (j : ℕ). is_number eq (f j) (slice_get ys j) ≡ false) same (ap (is_number eq (f k)) q) in
             ap (λ (b : Bool). agree eq f ys n && b) last ∙ and-false (agree eq f ys n)
 
     -- all that there are

@@ -105,38 +105,52 @@ module _ (head : Head) (b r : List ℕ) (size more : ℕ) (sized : size ≡ byte
     unfolding recording_no first_recording_refusal
     no_half h = rw (sym half_is ∙ eq-eqb odd 1 h)
 
-    module _ (even : odd ≡ 1 → ⊥) where
-      not_half_here : half_input head (b ++ r) ≡ false
-      not_half_here = sym half_is ∙ ne_eqb odd 1 even
+    -- refused settings
+    pub no_wrong : (w : ℕ) → w ≡ track_settings_no (head_settings head b) (pos 0) → (w ≡ 0 → ⊥) → first_recording_refusal (eqb odd 1) w false true ≡ recording_no head (b ++ r)
+    unfolding recording_no first_recording_refusal
+    no_wrong w e h = rw (half_is, ← settings_is, ← e, ne_eqb w 0 h)
 
-      -- refused settings
-      no_wrong : (w : ℕ) → w ≡ track_settings_no (head_settings head b) (pos 0) → (w ≡ 0 → ⊥) → w ≡ recording_no head (b ++ r)
+    module _ (e : track_settings_no (head_settings head b) (pos 0) ≡ 0) where
+      right : track_settings_no (head_settings head (b ++ r)) (pos 0) ≡ 0
+      right = sym settings_is ∙ e
+
+      -- more bytes than are at hand: too many frames
+      pub no_more : 0 < more → first_recording_refusal (eqb odd 1) 0 true true ≡ recording_no head (b ++ r)
       unfolding recording_no first_recording_refusal
-      no_wrong w e h = rw (not_half_here, ← settings_is, ← e, ne_eqb w 0 h)
+      no_more h =
+          let n = samples_over head (b ++ r) (omega (arith, whole, full h)) in
+          rw (half_is, right, lt-ltb program_frames _ (too_many (stored_settings (head_settings head (b ++ r))) (known _ (pos 0) right) (length (samples_in head (b ++ r))) n))
 
-      -- as an answer gives it
+      -- all bytes at hand
+      pub no_all : more ≤ 0
+          → first_recording_refusal (eqb odd 1) 0 (ltb program_frames (F (stored_settings (head_settings head b)) ((length b - size) / 2))) (head_known head b) ≡ recording_no head (b ++ r)
+      unfolding recording_no
+      no_all h =
+          let n : (length b - size) / 2 ≡ length (samples_in head (b ++ r)) = omega (arith, samples_count head (b ++ r), whole) in
+          rw (half_is, right, ← head_front b r head there, ← known_front b r head there, n)
+
+    -- of an even number of sample bytes, as the code asks
+    module _ (even : odd ≡ 1 → ⊥) where
+      no_odd : eqb odd 1 ≡ false
+      no_odd = ne_eqb odd 1 even
+
+      refused_even : (n : ℕ) → (n ≡ 0 → ⊥) → first_recording_refusal (eqb odd 1) n false true ≡ n
+      unfolding first_recording_refusal
+      refused_even n some = rw (no_odd, ne_eqb n 0 some)
+
+      -- an answer that the settings are refused
       pub no_refused : {A : Type 0} (w : Result A Refusal) → IsErr w → number_told w ≡ track_settings_no (head_settings head b) (pos 0) → number_told w ≡ recording_no head (b ++ r)
-      no_refused (Err w) i e = no_wrong (refusal_number w) e (refused_positive w refl)
+      no_refused (Err w) i e = let some = refused_positive w refl in sym (refused_even (refusal_number w) some) ∙ no_wrong (refusal_number w) e some
       no_refused (Ok k) i e = cc
 
       module _ (e : track_settings_no (head_settings head b) (pos 0) ≡ 0) where
-        right : track_settings_no (head_settings head (b ++ r)) (pos 0) ≡ 0
-        right = sym settings_is ∙ e
+        pub even_more : 0 < more → 6 ≡ recording_no head (b ++ r)
+        unfolding first_recording_refusal
+        even_more h = sym (ap (λ (t : Bool). first_recording_refusal t 0 true true) no_odd) ∙ no_more e h
 
-        -- more bytes than are at hand: too many frames
-        pub no_more : 0 < more → 6 ≡ recording_no head (b ++ r)
-        unfolding recording_no first_recording_refusal
-        no_more h =
-            let n = samples_over head (b ++ r) (omega (arith, whole, full h)) in
-            rw (not_half_here, right, lt-ltb program_frames _ (too_many (stored_settings (head_settings head (b ++ r))) (known _ (pos 0) right) (length (samples_in head (b ++ r))) n))
-
-        -- all bytes at hand
-        pub no_all : more ≤ 0
+        pub even_all : more ≤ 0
             → first_recording_refusal false 0 (ltb program_frames (F (stored_settings (head_settings head b)) ((length b - size) / 2))) (head_known head b) ≡ recording_no head (b ++ r)
-        unfolding recording_no
-        no_all h =
-            let n : (length b - size) / 2 ≡ length (samples_in head (b ++ r)) = omega (arith, samples_count head (b ++ r), whole) in
-            rw (not_half_here, right, ← head_front b r head there, ← known_front b r head there, n)
+        even_all h = sym (ap (λ (t : Bool). first_recording_refusal t 0 (ltb program_frames (F (stored_settings (head_settings head b)) ((length b - size) / 2))) (head_known head b)) no_odd) ∙ no_all e h
 
 -- no refusal: none of the four
 first_none : (half : Bool) (wrong : ℕ) (long known : Bool) → 0 ≡ first_recording_refusal half wrong long known → (half ≡ false) × (wrong ≡ 0) × (long ≡ false)

@@ -4,6 +4,7 @@ use Rattle.std.proofs.Common.{ap₂, sym, ◌∙◌, ltb-true, ltb-false, length
 use Rattle.lists.specs.FillLaws.{length_tabulate, get_d_tabulate}
 use Rattle.lists.specs.Fill.{overwritten}
 use Rattle.pitch_settings.specs.declared.Settings.{Settings}
+use Rattle.pitch_settings.specs.Settings.{held_no}
 use Rattle.pitch_table.specs.declared.Row.{Row}
 use Rattle.pitch_table.specs.Row.{row_size, most_frames, row_at}
 use Rattle.pitch_text.specs.Text.{refused_text}
@@ -131,6 +132,9 @@ unfolding sheet_report
 report_taken s t n h = ap₂ (λ (f : ℕ) (l : List ℕ). sheet_head s f ++ l) (rows_taken t n h) (lines_taken s.nb t n h)
 
 module _ {p : List ℕ} {t : List ℤ} {s : Settings} {frames : ℕ} {after : List ℤ} (f : Found p t s frames after) where
+  pub settings_known : held_no s ≡ 0
+  settings_known = ap held_no f.settings ∙ (good p f.sound).head.settings
+
   pub few_frames : frames ≤ most_frames
   few_frames = omega (arith, f.count, (good p f.sound).head.few)
 

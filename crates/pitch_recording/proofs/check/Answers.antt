@@ -8,7 +8,7 @@ use Rattle.track_paper.specs.Paper.{F}
 use Rattle.recording_head.specs.declared.Head.{Head}
 use Rattle.recording_head.specs.Head.{head_settings, head_known}
 use Rattle.pitch_recording.specs.Recording.{program_frames, first_recording_refusal}
-use Rattle.pitch_recording.specs.RecordingLaws.{no_short, no_half, no_refused, no_more, no_all}
+use Rattle.pitch_recording.specs.RecordingLaws.{no_short, no_half, no_refused, even_more, even_all}
 use Rattle.pitch_recording.proofs.check.Goals as goal
 
 -- settings k that the head at the front of b names, where they are not refused
@@ -36,24 +36,24 @@ returns-in_err-track c rest e =
 
 pub returns-then-more-gt0 : goal.returns-then-more-gt0
 returns-then-more-gt0 c rest e =
-    no_more c.args.input.head c.args.input.bytes.now rest c.head_size-size.result c.args.input.more c.head_size-size.ensures e c.args.input.full c.if-len-size.false c.if-half.false (right _ _ c.head_settings.ensures c.in_ok-track.ensures.number) c.if-more-gt0.true
+    even_more c.args.input.head c.args.input.bytes.now rest c.head_size-size.result c.args.input.more c.head_size-size.ensures e c.args.input.full c.if-len-size.false c.if-half.false (right _ _ c.head_settings.ensures c.in_ok-track.ensures.number) c.if-more-gt0.true
 
 pub returns-then-long : goal.returns-then-long
 unfolding first_recording_refusal
 returns-then-long c rest e =
     ap (λ (l : Bool). first_recording_refusal false 0 l (head_known c.args.input.head c.args.input.bytes.now)) (sym (long c.args.input.head c.args.input.bytes.now c.head_settings.ensures _ c.is_long-long.ensures c.stored.ensures c.in_ok-track.ensures.settings ∙ c.if-long.true))
-    ∙ no_all c.args.input.head c.args.input.bytes.now rest c.head_size-size.result c.args.input.more c.head_size-size.ensures e c.args.input.full c.if-len-size.false c.if-half.false (right _ _ c.head_settings.ensures c.in_ok-track.ensures.number) c.if-more-gt0.false
+    ∙ even_all c.args.input.head c.args.input.bytes.now rest c.head_size-size.result c.args.input.more c.head_size-size.ensures e c.args.input.full c.if-len-size.false c.if-half.false (right _ _ c.head_settings.ensures c.in_ok-track.ensures.number) c.if-more-gt0.false
 
 pub returns-then-not-known : goal.returns-then-not-known
 unfolding first_recording_refusal
 returns-then-not-known c rest e =
     ap (λ (k : Bool). first_recording_refusal false 0 false k) (sym c.if-not-known.true ∙ c.head_known-known.ensures)
     ∙ ap (λ (l : Bool). first_recording_refusal false 0 l (head_known c.args.input.head c.args.input.bytes.now)) (sym (long c.args.input.head c.args.input.bytes.now c.head_settings.ensures _ c.is_long-long.ensures c.stored.ensures c.in_ok-track.ensures.settings ∙ c.if-long.false))
-    ∙ no_all c.args.input.head c.args.input.bytes.now rest c.head_size-size.result c.args.input.more c.head_size-size.ensures e c.args.input.full c.if-len-size.false c.if-half.false (right _ _ c.head_settings.ensures c.in_ok-track.ensures.number) c.if-more-gt0.false
+    ∙ even_all c.args.input.head c.args.input.bytes.now rest c.head_size-size.result c.args.input.more c.head_size-size.ensures e c.args.input.full c.if-len-size.false c.if-half.false (right _ _ c.head_settings.ensures c.in_ok-track.ensures.number) c.if-more-gt0.false
 
 pub returns : goal.returns
 unfolding first_recording_refusal
 returns c rest e =
     ap (λ (k : Bool). first_recording_refusal false 0 false k) (sym c.if-not-known.false ∙ c.head_known-known.ensures)
     ∙ ap (λ (l : Bool). first_recording_refusal false 0 l (head_known c.args.input.head c.args.input.bytes.now)) (sym (long c.args.input.head c.args.input.bytes.now c.head_settings.ensures _ c.is_long-long.ensures c.stored.ensures c.in_ok-track.ensures.settings ∙ c.if-long.false))
-    ∙ no_all c.args.input.head c.args.input.bytes.now rest c.head_size-size.result c.args.input.more c.head_size-size.ensures e c.args.input.full c.if-len-size.false c.if-half.false (right _ _ c.head_settings.ensures c.in_ok-track.ensures.number) c.if-more-gt0.false
+    ∙ even_all c.args.input.head c.args.input.bytes.now rest c.head_size-size.result c.args.input.more c.head_size-size.ensures e c.args.input.full c.if-len-size.false c.if-half.false (right _ _ c.head_settings.ensures c.in_ok-track.ensures.number) c.if-more-gt0.false
