@@ -109,6 +109,25 @@ impl Sections<'_> {
         })
     }
 
+    // The sections of a page of which it is known that they have these sizes: nothing is tested again.
+    #[tactic(auto, using(crate::specs::PageLaws::head_means, crate::specs::PageLaws::sizes_means, crate::specs::PageLaws::voiced_in_le), unfolding(crate::specs::Page::frames_in, crate::specs::Page::voiced_in))]
+    pub fn of_sized(page: &[u8]) -> Sections
+        requires { (head_good page.now ≡ true) × (sizes_good page.now ≡ true) }
+        ensures { result.page.now ≡ page.now }
+    {
+        let held = Held {
+            settings: settings_at(page),
+        };
+        let frames = u32_at(page, FRAMES_AT) as usize;
+        let counted = voiced_in(page, frames);
+        Sections {
+            page,
+            settings: held,
+            frames,
+            voiced: counted,
+        }
+    }
+
     // Row i; `seen` rows before it are voiced.
     fn row(self, i: usize, seen: usize) -> Option<Row>
         requires { (i < self.frames) × (seen ≡ voiced_before self.page.now i) }
@@ -164,7 +183,7 @@ impl Sections<'_> {
 #[derive(Clone, Copy)]
 pub struct SheetPage<'a> {
     pub sections: Sections<'a>,
-    ghost readable: { rows_good sections.page.now ≡ true },
+    pub ghost readable: { rows_good sections.page.now ≡ true },
 }
 
 impl SheetPage<'_> {

@@ -45,3 +45,11 @@ pub fn answer_number(answer: Result<usize, Refusal>) -> usize
         Err(refusal) => refusal.number(),
     }
 }
+
+// The same of an answer whose refusal is any number of the caller's own, as the limit's can be.
+// A function of its own, since both were promised: a refusal alone would ask more of callers.
+pub fn number_of(answer: Result<usize, usize>) -> usize
+    ensures { result ≡ answer_no answer }
+{
+    answer.err().unwrap_or(0)
+}
