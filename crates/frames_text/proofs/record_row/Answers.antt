@@ -1,6 +1,5 @@
 -- `frames_text::record_row` meets its contract.
-use Rattle.std.proofs.Common.{◌≡◌, refl, List, ℕ, ℤ, ◌++◌, ◌+◌, ◌*◌, ◌≤◌, length, take, drop, length-append, length-take-le, take_all, sym, ap, ◌∙◌, arith}
-use mir.Syntax.{w32}
+use Rattle.std.proofs.Common.{◌≡◌, refl, List, ℕ, ℤ, ◌++◌, ◌+◌, ◌*◌, ◌≤◌, length, take, drop, length-append, length-take-le, take_all, sym, ap, ◌∙◌, arith, w32}
 use Rattle.zint.specs.ReadLaws.{r_got}
 use Rattle.lists.specs.Fill.{overwritten}
 use Rattle.refusals.specs.Refusals.{refusal_number}

@@ -1,9 +1,8 @@
 -- `stage2_correlations::KeptLags::measured_lags` meets its contract.
-use Rattle.std.proofs.Common.{rules, ◌≡◌, refl, sym, ap, subst, ◌∙◌, arith, ℕ, zero, suc, ◌+◌, ◌≤◌, ◌<◌, List, false}
+use Rattle.std.proofs.Common.{rules, ◌≡◌, refl, sym, ap, subst, ◌∙◌, arith, ℕ, zero, suc, ◌+◌, ◌≤◌, ◌<◌, List, false, get_or}
 use Rattle.std.proofs.Math.Decide.{dec_lt}
-use denote.Param.Members.{Mut, Called}
 use Rattle.std.specs.Array.{IsFromFnResultFrom}
-use Rattle.std.proofs.Math.ListN.{get_or}
+use Rattle.std.specs.Fn.{Mut, Called}
 use Rattle.lists.specs.FillLaws.{tabulate_is}
 use Rattle.stage2_correlations.specs.Marks.{measured}
 use Rattle.stage2_correlations.proofs.kept_lags.KeptLags.measured_lags.Goals as goal
