@@ -1,6 +1,6 @@
 -- Laws of the written bytes: a refusal, a sheet, what a started, fed and written track leaves, and that a track of at most the frames that a program takes is written on `longest_program_sheet` bytes.
 use Rattle.std.specs.Prelude.{Result, Ok, Err, ◌≡◌, refl, Bool, true, false, cond, ℕ, ◌/◌, ◌≤◌, ltb, ℤ, pos, List, [], ◌∷◌, ◌++◌, length, drop}
-use Rattle.std.proofs.Common.{◌∙◌, zero-add, ap, arith, eq-eqb, ne_eqb, le-ltb}
+use Rattle.std.proofs.Common.{◌∙◌, zero-add, sym, ap, arith, eq-eqb, ne_eqb, le-ltb}
 use Rattle.std.specs.Result.{result_unwrap_or}
 use Rattle.lists.specs.FillLaws.{length_tabulate}
 use Rattle.lists.specs.Fill.{overwritten}
@@ -17,7 +17,7 @@ use Rattle.track_chain.proofs.OnPaper.{equation}
 use Rattle.sheet_sections.specs.declared.Section.TheVariants.{Pairs}
 use Rattle.sheet_sections.specs.SheetLaws.{length_sheet, section_entries_le}
 use Rattle.refusals.specs.declared.Refusal.{Refusal}
-use Rattle.refusals.specs.Refusals.{told}
+use Rattle.refusals.specs.Refusals.{refusal_number, told}
 use Rattle.pitch_sheet.specs.Calls.{WriteOutcome, wrote, write_call}
 use Rattle.track_sheet.specs.Accepted.{paper_rows, paper_sheet}
 use Rattle.track_sheet.proofs.AcceptedLaws.{accepted_by_write}
@@ -64,6 +64,12 @@ module _ (k : TrackSettings) (t x : List ℤ) (page : List ℕ) (h : track_setti
         ∙ ap (λ (j : List ℤ). wrote (Ok (length (paper_sheet k j))) (paper_sheet k j ++ drop (length (paper_sheet k j)) page)) whole
 
     -- nothing is refused
+    pub never_refused : (n : Refusal) → r ≡ Err n → ⊥
+    never_refused n q =
+        let a : Err (refusal_number n) ≡ Ok (length (paper_sheet k x)) = sym (ap told q) ∙ ap (λ (o : WriteOutcome). o.answer) put in
+        cc
+
+    -- and the sheet is put
     pub sheet_put : (result_unwrap_or r 0 ≡ length (paper_sheet k x)) × (p ≡ overwritten (paper_sheet k x) page)
     sheet_put = (written_count r _ (ap (λ (o : WriteOutcome). o.answer) put), ap (λ (o : WriteOutcome). o.page) put)
 
