@@ -54,7 +54,8 @@ fn down2_step(s0: i32, s1: i32, a: i16, b: i16) -> Step<i16>
 }
 
 // Half the rate: in_len / 2 outputs, and the two states of s moved on.
-// The source's signature: the port goes function by function. By place: of what a `zip` with `iter_mut` writes a proof knows nothing.
+// The source's signature: the port goes function by function. By place: of what a `zip` with `iter_mut` writes a proof knows nothing,
+// and of `as_chunks` it stayed open in silk_sigproc that chunk k holds the samples 2k and 2k + 1.
 pub fn silk_resampler_down2(s: &mut [i32], out: &mut [i16], input: &[i16], in_len: usize)
     requires { (2 ≤ length s.old) × ((in_len / 2 ≤ length out.old) × (in_len ≤ length input.now)) }
     ensures out_after { out.new ≡ filled (halved (sample s.old 0) (sample s.old 1) (sample input.now)) (in_len / 2) out.old }

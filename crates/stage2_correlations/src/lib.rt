@@ -3,7 +3,7 @@
 // subframes in one array. The macros and kernels are the source's, and so are the names of constants and variables.
 #![tactic(auto)]
 
-ghost use Rattle.std.specs.Prelude.{◌≡◌, ◌+◌, ◌≤◌, ◌<◌, length};
+ghost use Rattle.std.specs.Prelude.{◌≡◌, true, ◌+◌, ◌≤◌, ◌<◌, length};
 ghost use Rattle.stage2_correlations.specs.Correlations.{target2};
 ghost use Rattle.stage2_correlations.specs.Rows.{ratio_of, at_lag, subframe_row};
 
@@ -33,20 +33,16 @@ fn divide(cross_corr: i32, norm: i32) -> Option<i16>
     }
 }
 
-// The correlation at the lag d of the samples from target on; 0 where the lag is not measured, and none where its divisor is reached and zero.
-fn correlate(marked: bool, frame_8khz: &[i16], target: usize, d: usize, norm: i32) -> Option<i16>
+// The correlation at the lag d of the samples from target on; none where its divisor is reached and zero.
+fn correlate(frame_8khz: &[i16], target: usize, d: usize, norm: i32) -> Option<i16>
     requires { (d ≤ target) × (target + 40 ≤ length frame_8khz.now) }
-    ensures { result ≡ at_lag marked frame_8khz.now target d norm }
+    ensures { result ≡ at_lag true frame_8khz.now target d norm }
 {
-    if marked {
-        let basis = target - d;
-        divide(
-            silk_inner_prod_aligned(&frame_8khz[target..], &frame_8khz[basis..], SF_LENGTH_8KHZ),
-            norm,
-        )
-    } else {
-        Some(0)
-    }
+    let basis = target - d;
+    divide(
+        silk_inner_prod_aligned(&frame_8khz[target..], &frame_8khz[basis..], SF_LENGTH_8KHZ),
+        norm,
+    )
 }
 
 // The correlations of subframe k at the marked lags among 14 to 145 (132 places, the source's CSTRIDE_8KHZ; lag 145 can be read and is never measured), and 0 at the others.
@@ -67,7 +63,11 @@ pub fn subframe_row(
     let mut zero = false;
     for (i, &marked) in marks.iter().enumerate() {
         let norm = wrapping_add_i32(energy_target, energy_basis);
-        let at = correlate(marked, frame_8khz, target, 14 + i, norm);
+        let at = if marked {
+            correlate(frame_8khz, target, 14 + i, norm)
+        } else {
+            Some(0)
+        };
         c_8khz[i] = at.unwrap_or(0);
         if at.is_none() {
             zero = true;

@@ -1,5 +1,9 @@
 -- `stage2_correlations::correlate` meets its contract.
-use Rattle.std.proofs.Common.{sym, ap, ap₂, ◌∙◌, Bool, cond, List, ◌-◌, ℤ, pos, Some, drop, w32}
+use mathlib.Core.Path.{ap₂, ◌∙◌}
+use mathlib.Core.List.{List}
+use Prim.Native.Nat.{◌-◌}
+use lib.IntN.{ℤ}
+use mir.Syntax.{w32}
 use Rattle.zint.specs.Wrap.{wrap}
 use Rattle.zint.specs.ReadLaws.{r_var, r_got}
 use Rattle.lists.specs.FillLaws.{tail_part}
@@ -7,20 +11,11 @@ use Rattle.silk_sigproc.specs.Dot.{dot}
 use Rattle.stage2_correlations.specs.Rows.{ratio_of, at_lag}
 use Rattle.stage2_correlations.proofs.correlate.Goals as goal
 
-pub returns-then-marked : goal.returns-then-marked
+pub returns : goal.returns
 unfolding at_lag
-returns-then-marked c =
+returns c =
     let a = c.args in
     let e = a.frame_8khz.now in
     let x = c.silk_inner_prod_aligned in
     let v = (r_got w32 x.type_inv (x.ensures ∙ ap₂ (λ (y z : List ℤ). wrap w32 (dot y z 40)) (tail_part a.target e) (tail_part (a.target - a.d) e))).val in
-    c.divide.ensures
-    ∙ ap₂ ratio_of v (r_var c.ranges.norm).val
-    ∙ sym (ap (λ (m : Bool). cond m (ratio_of (wrap w32 (dot (drop a.target e) (drop (a.target - a.d) e) 40)) a.norm) (Some (pos 0))) c.if-marked.true)
-
-pub returns-else-marked : goal.returns-else-marked
-unfolding at_lag
-returns-else-marked c =
-    let a = c.args in
-    let e = a.frame_8khz.now in
-    sym (ap (λ (m : Bool). cond m (ratio_of (wrap w32 (dot (drop a.target e) (drop (a.target - a.d) e) 40)) a.norm) (Some (pos 0))) c.if-marked.false)
+    c.divide.ensures ∙ ap₂ ratio_of v (r_var c.ranges.norm).val

@@ -1,17 +1,28 @@
 -- `stage2_correlations::subframe_row` meets its contract.
-use Rattle.std.proofs.Common.{Bool, not, List, ◌≡◌, refl, sym, ap, ap₂, ◌∙◌, ℕ, ◌+◌, ◌-◌, ◌*◌, arith, lit≤, ℤ, pos, ◌+ℤ◌, ◌-ℤ◌, ◌*ℤ◌, get_or, replicate, w16, w32, to_z, of_z, Option, unwrap_or, is_none, rules}
+use mathlib.Core.Bool.{Bool, false, not}
+use mathlib.Core.List.{List}
+use mathlib.Core.Path.{◌≡◌, refl, sym, ap, ap₂, ◌∙◌}
+use Prim.Native.Nat.{ℕ, ◌+◌, ◌-◌, ◌*◌}
+use native.Mathlib.Omega.{arith}
+use lib.Dec.{lit≤}
+use lib.IntN.{ℤ, pos, ◌+ℤ◌, ◌-ℤ◌, ◌*ℤ◌}
+use lib.ListN.{get_or, replicate}
+use mir.Syntax.{w16, w32}
+use mir.Val.{to_z, of_z}
 use Rattle.zint.specs.Wrap.{wrap}
 use Rattle.zint.specs.ReadLaws.{r_got, r_elem, r_lit, r_call2}
 use Rattle.lists.specs.Fill.{filled}
 use Rattle.lists.specs.FillLaws.{filled_none, filled_turn, filled_all}
+use Rattle.std.specs.Prelude.{Option, Some, unwrap_or, is_none}
 use Rattle.best.specs.Best.{some}
 use Rattle.silk_sigproc.specs.Dot.{energy_sum}
 use Rattle.stage2_correlations.specs.Correlations.{target2 as start_of_lem}
-use Rattle.stage2_correlations.specs.Rows.{value_at, zero_at, row_by, subframe_row}
+use Rattle.stage2_correlations.specs.Rows.{at_lag, value_at, zero_at, row_by, subframe_row}
 use Rattle.stage2_correlations.specs.RowLaws.{divisor_is, energy_back, at_lag_is, lag_value, lag_zero, some_more, some_same}
 use Rattle.zint.specs.RuleLaws.{zneeds}
+use borrow.Author.Rules.{rules}
 use Rattle.stage2_correlations.proofs.subframe_row.Goals as goal
-use Rattle.stage2_correlations.proofs.subframe_row.Goals.{then-is_none, else-is_none}
+use Rattle.stage2_correlations.proofs.subframe_row.Goals.{then-is_none, else-is_none, then-marked, else-marked}
 
 pub energy_of_40-requires : goal.energy_of_40-requires
 unfolding start_of_lem
@@ -42,6 +53,11 @@ pub bounds-frame_8khz-basis-in-loop-i : goal.bounds-frame_8khz-basis-in-loop-i
 unfolding start_of_lem
 bounds-frame_8khz-basis-in-loop-i c = omega (arith, c.requires.1)
 
+-- at a lag that is not measured
+unmarked : (e : List ℤ) (t d : ℕ) (n : ℤ) → Some (pos 0) ≡ at_lag false e t d n
+unfolding at_lag
+unmarked e t d n = refl
+
 pub loop-i-preserved : goal.loop-i-preserved
 unfolding start_of_lem
 loop-i-preserved c =
@@ -64,11 +80,19 @@ loop-i-preserved c =
     -- the lag's correlation
     let n = c.wrapping_add_i32-norm in
     let normed = (r_got w32 n.type_inv (n.ensures ∙ ap₂ (λ (x y : ℤ). wrap w32 (x +ℤ y)) inv.1.0 inv.1.1.0 ∙ divisor_is e a.k (14 + i))).val in
-    let r = c.correlate-at.ensures ∙ at_lag_is e a.marks.now a.k i _ normed in
+    let norm = to_z w32 (of_z w32 n.result) in
+    let at_mark = λ (t : Bool). at_lag t e (start_of_lem a.k) (14 + i) norm in
+    let said : c.if-marked.at ≡ at_mark (get_or a.marks.now i false) =
+    elim c.if-marked.branch [
+      | then-marked w ↦ w.at-is ∙ w.correlate-at.ensures ∙ ap at_mark (sym w.if-marked.true)
+      | else-marked w ↦ w.at-is ∙ unmarked e (start_of_lem a.k) (14 + i) norm ∙ ap at_mark (sym w.if-marked.false)
+    ]
+    in
+    let r = said ∙ at_lag_is e a.marks.now a.k i _ normed in
     let f = zero_at e a.marks.now a.k in
     let stored : to_z w16 (of_z w16 c.unwrap_or.result) ≡ c.unwrap_or.result = search zneeds in
     let v = stored ∙ c.unwrap_or.ensures ∙ ap (λ (x : Option ℤ). unwrap_or x (pos 0)) r ∙ lag_value e a.marks.now a.k i in
-    let z : is_none c.correlate-at.result ≡ f i = ap is_none r ∙ lag_zero (f i) (value_at e a.marks.now a.k i) in
+    let z : is_none c.if-marked.at ≡ f i = ap is_none r ∙ lag_zero (f i) (value_at e a.marks.now a.k i) in
     let w : c.if-is_none.zero ≡ some (i + 1) f =
     elim c.if-is_none.branch [
       | then-is_none w ↦ some_more i f (sym z ∙ ap not w.if-is_none.ensures) w.zero-is
