@@ -1,9 +1,5 @@
 -- `stage2_correlations::correlate` meets its contract.
-use mathlib.Core.Path.{ap₂, ◌∙◌}
-use mathlib.Core.List.{List}
-use Prim.Native.Nat.{◌-◌}
-use lib.IntN.{ℤ}
-use mir.Syntax.{w32}
+use Rattle.std.proofs.Common.{ap₂, ◌∙◌, List, ◌-◌, ℤ, w32}
 use Rattle.zint.specs.Wrap.{wrap}
 use Rattle.zint.specs.ReadLaws.{r_var, r_got}
 use Rattle.lists.specs.FillLaws.{tail_part}

@@ -1,26 +1,15 @@
 -- `stage2_correlations::subframe_row` meets its contract.
-use mathlib.Core.Bool.{Bool, false, not}
-use mathlib.Core.List.{List}
-use mathlib.Core.Path.{◌≡◌, refl, sym, ap, ap₂, ◌∙◌}
-use Prim.Native.Nat.{ℕ, ◌+◌, ◌-◌, ◌*◌}
-use native.Mathlib.Omega.{arith}
-use lib.Dec.{lit≤}
-use lib.IntN.{ℤ, pos, ◌+ℤ◌, ◌-ℤ◌, ◌*ℤ◌}
-use lib.ListN.{get_or, replicate}
-use mir.Syntax.{w16, w32}
-use mir.Val.{to_z, of_z}
+use Rattle.std.proofs.Common.{Bool, false, not, List, ◌≡◌, refl, sym, ap, ap₂, ◌∙◌, ℕ, ◌+◌, ◌-◌, ◌*◌, arith, lit≤, ℤ, pos, ◌+ℤ◌, ◌-ℤ◌, ◌*ℤ◌, get_or, replicate, w16, w32, to_z, of_z, Option, Some, unwrap_or, is_none, rules}
 use Rattle.zint.specs.Wrap.{wrap}
 use Rattle.zint.specs.ReadLaws.{r_got, r_elem, r_lit, r_call2}
 use Rattle.lists.specs.Fill.{filled}
 use Rattle.lists.specs.FillLaws.{filled_none, filled_turn, filled_all}
-use Rattle.std.specs.Prelude.{Option, Some, unwrap_or, is_none}
 use Rattle.best.specs.Best.{some}
 use Rattle.silk_sigproc.specs.Dot.{energy_sum}
 use Rattle.stage2_correlations.specs.Correlations.{target2 as start_of_lem}
 use Rattle.stage2_correlations.specs.Rows.{at_lag, value_at, zero_at, row_by, subframe_row}
 use Rattle.stage2_correlations.specs.RowLaws.{divisor_is, energy_back, at_lag_is, lag_value, lag_zero, some_more, some_same}
 use Rattle.zint.specs.RuleLaws.{zneeds}
-use borrow.Author.Rules.{rules}
 use Rattle.stage2_correlations.proofs.subframe_row.Goals as goal
 use Rattle.stage2_correlations.proofs.subframe_row.Goals.{then-is_none, else-is_none, then-marked, else-marked}
 
