@@ -104,7 +104,7 @@ pub fn put_lines(out: &mut [u8], at: usize, nb: usize, rows: &[i32]) -> usize
     ensures { Put out.old at (lines_text nb (row_at rows.now) (length rows.now / row_size)) result out.new × (result ≤ at + line_bytes * (length rows.now / row_size)) }
 {
     let mut p = at;
-    // by number, as `get_row` reads the table; over `chunks_exact(..).enumerate()` a proof knows only the list of pairs so far, and neither which number nor which row comes next
+    // by number, as `get_row` reads the table. Tried over `chunks_exact(..).enumerate()`: the loop's proof then has a list of pairs and no i; what `put_line` asks and the result stayed open
     for i in 0..rows.len() / ROW_SIZE {
         p = put_line(out, p, i as u32, nb, get_row(rows, i));
     }
