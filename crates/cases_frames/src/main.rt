@@ -26,6 +26,7 @@ const ROW_BYTES: usize = 32;
 
 const LAGS_AT: usize = 16;
 
+// The numbers of a verdict are written out here alone: the call for C writes them to four places of its caller's.
 fn verdict_agrees(row: &[u8], v: Verdict) -> bool {
     match v {
         Verdict::Voiced {

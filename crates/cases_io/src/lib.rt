@@ -253,6 +253,7 @@ fn counted(n: u64, counts: bool) -> u64
 
 impl Tally {
     // No case yet.
+    // Methods of these names and no Default or Add: the definitions and the clauses of the programs name them.
     pub fn none() -> Tally
         ensures { (result.agreed ≡ 0) × (result.total ≡ 0) }
     {

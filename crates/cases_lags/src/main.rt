@@ -12,6 +12,7 @@ use std::io;
 use std::io::Write;
 
 // A rate, a subframe count and a complexity.
+// The settings alone: index and contour go beside them, since the loops over them nest in this order.
 #[derive(Clone, Copy)]
 struct LagSettings {
     fs_khz: usize,

@@ -33,6 +33,7 @@ pub const RECORDING_BYTES: usize = LONGEST_HEAD + 2 * RECORDING_SAMPLES;
 pub const RECORDING_NUMBERS: usize = PROGRAM_FRAMES * ROW_SIZE;
 
 // An input that is taken: its settings, and how many samples it has.
+// A count and not the samples as a slice: what is said of `take_recording` speaks of the whole room after it, which a slice of it would keep lent.
 #[derive(Clone, Copy)]
 pub struct Recording {
     pub settings: TrackSettings,

@@ -17,6 +17,7 @@ pub struct Analysis {
     pub ghost carried: { pair_carried_in settings.settings verdict ≡ true },
 }
 
+// The pair of a voiced verdict is made in each of the two methods that need it: a method for it alone would have to ask for what the case has just told.
 impl Analysis {
     // What the stages find in the first N samples.
     #[tactic(auto, using(crate::specs::FrameLaws::carried_test))]
