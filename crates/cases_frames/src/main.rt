@@ -49,6 +49,7 @@ fn lag_agrees(row: &[u8], nb: usize, k: usize, lag: i32) -> bool {
 }
 
 // Whether the call answers these samples as the row says.
+// The previous lag and correlation are two numbers, as the call has them.
 fn agrees(samples: &[u8], row: &[u8], s: Settings, prev_lag: i32, prev_corr: i32) -> bool
     requires { length samples.now ≤ 2 * longest_frame }
 {

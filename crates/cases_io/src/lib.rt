@@ -65,7 +65,7 @@ pub fn byte_at(bytes: &[u8], at: usize) -> u8
 }
 
 // The number of two bytes at `at`, without sign.
-// Here and in the next two the type, its bytes and the law of its value differ; one function over the number of bytes would stand beside all three, and ask that there are few.
+// Here and in the next two the type, its bytes and the law of its value differ; one function over a number of bytes would need a bound on that number, and these three beside it all the same.
 #[tactic(auto, using(crate::specs::LittleLaws::two_bytes))]
 pub fn u16_at(bytes: &[u8], at: usize) -> u16
     ensures { result ≡ u16_at bytes.now at }
@@ -205,7 +205,7 @@ pub fn load<T: Little>(bytes: &[u8], at: usize, out: &mut [T])
 }
 
 // Whether xs are the numbers from `at` on.
-// A loop and not `enumerate().all(..)`, which was tried: std has no law of the two together, and what the loop returns stayed open.
+// A loop and not `enumerate().all(..)`, which was tried: std has no law of the two together, and the `ensures` stayed open.
 pub fn same<T: Little>(bytes: &[u8], at: usize, xs: &[T]) -> bool
     ensures { result ≡ agree T.eq (numbers_at T.value_at T.SIZE bytes.now at) xs.now (length xs.now) }
 {
@@ -253,7 +253,7 @@ fn counted(n: u64, counts: bool) -> u64
 
 impl Tally {
     // No case yet.
-    // Methods of these names and no Default or Add: the definitions and the clauses of the programs name them.
+    // Here and in `plus` no Default or Add: their clauses would be std's own, and these say each of the two counts.
     pub fn none() -> Tally
         ensures { (result.agreed ≡ 0) × (result.total ≡ 0) }
     {

@@ -126,6 +126,7 @@ fn replay<W: Write>(output: &mut W, bytes: &[u8]) -> io::Result<()> {
         .print(output, b"end of the list:")
 }
 
+// A main is its program's list and what is done with it: `over_list` has all that the replaying programs share.
 fn main(rt: HostRuntime) -> io::Result<()> {
     over_list(&mut rt.stdin(), |list| replay(&mut rt.stdout(), list))
 }

@@ -132,6 +132,7 @@ fn replay_all<W: Write>(output: &mut W, list: &[u8]) -> io::Result<()> {
     replay_decimator(output, list, Decimator::Down2By3, b"silk_resampler_down2_3")
 }
 
+// A main is its program's list and what is done with it: `over_list` has all that the replaying programs share.
 fn main(rt: HostRuntime) -> io::Result<()> {
     over_list(&mut rt.stdin(), |list| replay_all(&mut rt.stdout(), list))
 }

@@ -36,7 +36,7 @@ enum Call {
     Read,
 }
 
-// The call of this number; there is no third.
+// The call of this number; there is no third. The numbers are the list's own, so a match says which is which.
 fn call_of(number: u8) -> Option<Call> {
     match number {
         0 => Some(Call::Write),
@@ -49,6 +49,7 @@ fn call_of(number: u8) -> Option<Call> {
 struct Case {
     call: Option<Call>,
     // the refusal's number, or 0
+    // a number, as the list has it
     number: usize,
     settings: Settings,
     frames: usize,

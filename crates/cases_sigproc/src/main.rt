@@ -130,6 +130,7 @@ fn replay_all<W: Write>(output: &mut W, list: &[u8]) -> io::Result<()> {
     replay_group(output, list, Group::PaddedXcorr, padded)
 }
 
+// A main is its program's list and what is done with it: `over_list` has all that the replaying programs share.
 fn main(rt: HostRuntime) -> io::Result<()> {
     over_list(&mut rt.stdin(), |list| replay_all(&mut rt.stdout(), list))
 }

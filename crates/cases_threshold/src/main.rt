@@ -34,6 +34,7 @@ fn kind_of(case: &[u8]) -> Option<Kind> {
 }
 
 // Whether the answer is this number, with this threshold where the number is 0.
+// A number, as the list has it; 0 is no refusal.
 fn says(answer: Result<i32, Refusal>, number: usize, threshold: i32) -> bool
     ensures { result ≡ true → threshold_answer_numbers (told answer) ≡ answer_numbers number (threshold ∷ []) }
 {
@@ -78,6 +79,7 @@ fn replay_all<W: Write>(output: &mut W, list: &[u8]) -> io::Result<()> {
     replay_kind(output, list, Kind::Random, b"random:")
 }
 
+// A main is its program's list and what is done with it: `over_list` has all that the replaying programs share.
 fn main(rt: HostRuntime) -> io::Result<()> {
     over_list(&mut rt.stdin(), |list| replay_all(&mut rt.stdout(), list))
 }

@@ -22,7 +22,7 @@ enum Body {
     Deliveries,
 }
 
-// What a record of this kind holds.
+// What a record of this kind holds. The numbers are the list's own, so a match says which is which.
 fn body_of(kind: u8) -> Body {
     match kind {
         0..=7 => Body::Text(Head::Plain),

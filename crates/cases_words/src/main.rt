@@ -259,6 +259,7 @@ fn replay_all<W: Write>(o: &mut W, list: &[u8]) -> io::Result<()> {
     )
 }
 
+// A main is its program's list and what is done with it: `over_list` has all that the replaying programs share.
 fn main(rt: HostRuntime) -> io::Result<()> {
     over_list(&mut rt.stdin(), |list| replay_all(&mut rt.stdout(), list))
 }

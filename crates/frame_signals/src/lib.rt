@@ -65,7 +65,7 @@ fn two_thirds_into(frame: &[i16], out: &mut [i16], filter: Filter)
 }
 
 // The working frame at 8 kHz, in the first places of out, at 12 kHz by a filter; at 8 kHz it is a copy.
-// The rate is a number, which is also reckoned with; any other counts as 8.
+// The rate stays a number: lags and lengths are multiples of it. Any other counts as 8.
 pub fn frame_8khz(frame: &[i16], out: &mut [i16], fs_khz: usize, filter: Filter)
     requires { (length (down_to_8khz filter fs_khz frame.now) ≤ length out.old) × (fs_khz ≡ 12 → length frame.now ≤ 480) }
     ensures { out.new ≡ overwritten (down_to_8khz filter fs_khz frame.now) out.old }

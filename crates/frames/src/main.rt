@@ -33,6 +33,7 @@ fn read_record<R: Read>(input: &mut R, bytes: &mut [u8]) -> Result<usize, Failur
 }
 
 // Reads a record and prints its line or its refusal; after it more may follow, or it was the last, at the end of the input or refused. Nothing follows a read or a write that failed.
+// The rooms are slices of at least so many places, as what they are handed to asks.
 fn print_record<R: Read, W: Write, E: Write>(
     input: &mut R,
     output: &mut W,

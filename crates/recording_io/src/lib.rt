@@ -46,7 +46,7 @@ impl<T: Copy> From<Unread<T>> for Failure {
 }
 
 // What reading into a buffer brought, and how it ended: the buffer was full or the input at its end, or a read failed with this error.
-// A count beside the end, and no Result with it in both cases: it counts in both.
+// The count stands beside the end and not in it: it counts whether reading failed or not.
 #[derive(Drop)]
 pub struct Filled {
     pub count: usize,

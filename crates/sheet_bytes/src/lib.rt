@@ -15,6 +15,7 @@ pub fn u16_at(page: &[u8], at: usize) -> u16
 }
 
 // The unsigned number in the four bytes from `at` on.
+// That four bytes stand there is a bound of the place.
 pub fn u32_at(page: &[u8], at: usize) -> u32
     requires { at + 4 ≤ length page.now }
     ensures { result ≡ number_at 4 page.now at }

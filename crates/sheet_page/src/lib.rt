@@ -51,8 +51,8 @@ fn head(page: &[u8]) -> Option<Held>
     settings_at(page).held().ok()
 }
 
-// How many of the first verdicts are 0. By the page and a count, since the definition counts by place on the page: of the verdicts as a slice of their own, which was tried, the sections'
-// proof then has to be told what it knows of the page.
+// How many of the first verdicts are 0. By the page and a count, as the definition counts: over the verdicts as a slice of their own, which was tried,
+// the proof of the sections stayed open at five places.
 #[tactic(auto, using(crate::specs::PageLaws::voiced_counted))]
 fn voiced_in(page: &[u8], frames: usize) -> usize
     requires { verdicts_at + frames ≤ length page.now }

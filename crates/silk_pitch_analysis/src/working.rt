@@ -26,6 +26,7 @@ pub struct WorkingFrame<'a> {
 }
 
 // A voiced verdict, from the last stage's lag and contour.
+// The rate is a plain number with its bound: the lag's index is defined for each.
 fn voiced(fs_khz: usize, lag: usize, contour: usize, correlation: i32) -> Verdict
     requires { (fs_khz ≤ 16) × ((lag ≤ 18 * fs_khz) × (contour < 34)) }
     ensures { result ≡ from_pair fs_khz correlation (FoundPair lag contour) }

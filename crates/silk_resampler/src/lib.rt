@@ -169,7 +169,7 @@ fn odd_output(buf: &[i32], m: usize, filter: Filter) -> i16
 }
 
 // Two outputs for every three values of buf, n times. By places and not by chunks: the outputs of three values read two values of the next three as well.
-// By a number of turns, for the same reason: the parts of out and buf would be of different lengths, 2n and 3n + 2.
+// By a number of turns and not by the lengths of slices: those of out and buf would differ, 2n and 3n + 2.
 fn decimate(out: &mut [i16], buf: &[i32], n: usize, filter: Filter)
     requires { (2 * n ≤ length out.old) × (3 * n + 2 ≤ length buf.now) }
     ensures { out.new ≡ filled (decimated filter (sample buf.now)) (2 * n) out.old }

@@ -42,8 +42,8 @@ impl Codebook {
         row
     }
 
-    // What contour j adds to the lag in subframe k. It looks up the one place: by `row`, a frame took 2 to 5% more instructions. `lag_cb_stage2` does so in stage 2's tables: by
-    // one generic function that is handed the tables of either stage, and so lays them on the stack at each call, a frame took 4 to 25% more.
+    // What contour j adds to the lag in subframe k. It looks up the one place: by `row`, a frame took 2 to 5% more instructions. `lag_cb_stage2` does the same in stage 2's tables: one
+    // generic function for both lays the tables on the stack at each call, and a frame took 4 to 25% more.
     pub fn lag_cb(self, k: usize, j: usize) -> i32
         requires { (k < self.nb) × (j < in_use self.nb self.complexity) }
         ensures { result ≡ offset self.nb k j }

@@ -59,6 +59,7 @@ fn scores(frame_4khz: &[i16], nb_subfr: usize) -> Option<[i16; 65]>
 }
 
 // How many places of the ranking are searched: at least one and at most eight.
+// Subframe count and complexity are plain numbers with their bounds: settings would ask more than is needed.
 #[tactic(auto, unfolding(crate::specs::Stage1::search_length))]
 fn search_length(complexity: usize) -> usize
     requires { complexity < 3 }
@@ -81,6 +82,7 @@ fn run_above(c_combined: &[i16], threshold: i32) -> usize
 }
 
 // The indices as lags.
+// By place and not by a `zip` with `iter_mut`, of whose writing a proof knows nothing.
 fn lags_of(d_srch: &[usize]) -> [usize; 8]
     requires { (length d_srch.now ≤ 8) × ((i : ℕ) → i < length d_srch.now → get_or d_srch.now i 0 < 65) }
     ensures { result ≡ filled (λ (i : ℕ). 8 + get_or d_srch.now i 0) (length d_srch.now) (replicate 8 0) }

@@ -62,7 +62,7 @@ pub struct LagSearch {
 }
 
 // The previous lag at 8 kHz.
-// The rate is a number, which is also reckoned with.
+// The rate stays a number: lags and lengths are multiples of it.
 fn previous_8khz(fs_khz: usize, prev_lag: i32) -> i32
     ensures { result ≡ prev_8khz fs_khz prev_lag }
 {
@@ -89,7 +89,7 @@ fn distance_q7(lag_log2_q7: i32, prev_lag_log2_q7: i32) -> i32
 }
 
 // What a lag is marked down by for its distance from the previous lag.
-// Any count up to 4: the steps are defined for each of them.
+// Any count up to 4, here and below, and any rate: the steps are defined for each.
 fn prev_lag_bias(nb_subfr: usize, prev_corr: i32, delta_lag_log2_sqr_q7: i32) -> i32
     requires { (nb_subfr ≤ 4) × ((pos 0 ≤ℤ delta_lag_log2_sqr_q7) × (delta_lag_log2_sqr_q7 ≤ℤ pos 8388608)) }
     ensures { result ≡ prev_bias nb_subfr prev_corr delta_lag_log2_sqr_q7 }

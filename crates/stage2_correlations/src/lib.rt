@@ -46,7 +46,7 @@ fn correlate(frame_8khz: &[i16], target: usize, d: usize, norm: i32) -> Option<i
 }
 
 // The correlations of subframe k at the marked lags among 14 to 145 (132 places, the source's CSTRIDE_8KHZ; lag 145 can be read and is never measured), and 0 at the others.
-// Where a divisor that is reached is zero they are an error's, with 0 at each lag whose divisor it is.
+// Where a divisor that is reached is zero, the array is the error, with 0 at each lag whose divisor is zero.
 // The error has the correlations too, since all 132 were promised where a divisor is zero as well; so the loop goes on, and a flag stands beside them in it.
 pub fn subframe_row(
     frame_8khz: &[i16],
@@ -61,6 +61,7 @@ pub fn subframe_row(
     let mut energy_basis = energy_of_40(frame_8khz, target - 14);
     let mut c_8khz = [0i16; 132];
     let mut zero = false;
+    // by place: of what a `zip` with `iter_mut` writes a proof knows nothing
     for (i, &marked) in marks.iter().enumerate() {
         let norm = wrapping_add_i32(energy_target, energy_basis);
         let at = if marked {

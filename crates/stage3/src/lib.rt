@@ -156,6 +156,7 @@ impl PairSearch {
 }
 
 // A pair's numbers added up over the subframes.
+// Any count up to 4, and below any rate up to 16: the sums are defined for each.
 fn sum_subframes(
     from: i32,
     values: &[[[i32; 5]; 34]; 4],

@@ -20,7 +20,7 @@ pub enum SecondThreshold {
 }
 
 // The five settings with which a track is analysed.
-// A struct beside `Settings` and no type parameter for the one field that differs: definitions, C and customers name the two, and the parameter would stand in every clause.
+// A struct beside `Settings` and no type parameter for the one field that differs: definitions and customers name the two, and the parameter would stand in every clause.
 #[derive(Clone, Copy, PartialEq, Eq)]
 pub struct TrackSettings {
     // samples per millisecond (kHz): 8, 12 or 16
