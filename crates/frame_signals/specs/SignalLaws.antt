@@ -13,8 +13,7 @@ pub use Rattle.lists.specs.PushLaws.{take_overwritten}
 use Rattle.lists.specs.Signal.{sample}
 use Rattle.silk_resampler.specs.Down2.{down2}
 use Rattle.silk_resampler.specs.Down2Laws.{down2_length}
-use Rattle.silk_resampler.specs.declared.filter.Filter.{Filter}
-use Rattle.silk_resampler.specs.Down23.{down2_3}
+use Rattle.silk_resampler.specs.Down23.{FilterNumbers, down2_3}
 use Rattle.silk_resampler.specs.Down23Laws.{down2_3-length}
 use Rattle.frame_signals.specs.Signals.{down_to_8khz, two_tap, down_to_4khz}
 
@@ -40,16 +39,16 @@ filled_down f (suc zero) n l o h k e =
 
 -- ---- which signal at which rate
 
-pub eight_16 : (F : Filter) (fs : ℕ) (w : List ℤ) → fs ≡ 16 → down_to_8khz F fs w ≡ down2 w
+pub eight_16 : (F : FilterNumbers) (fs : ℕ) (w : List ℤ) → fs ≡ 16 → down_to_8khz F fs w ≡ down2 w
 unfolding down_to_8khz
 eight_16 F fs w e = ap (λ (t : Bool). cond t (down2 w) (cond (eqb fs 12) (down2_3 F w) w)) (eq-eqb fs 16 e)
 
-pub eight_12 : (F : Filter) (fs : ℕ) (w : List ℤ) → fs ≡ 12 → down_to_8khz F fs w ≡ down2_3 F w
+pub eight_12 : (F : FilterNumbers) (fs : ℕ) (w : List ℤ) → fs ≡ 12 → down_to_8khz F fs w ≡ down2_3 F w
 unfolding down_to_8khz
 eight_12 F fs w e =
     ap₂ (λ (t u : Bool). cond t (down2 w) (cond u (down2_3 F w) w)) (ne_eqb fs 16 (λ h. omega arith)) (eq-eqb fs 12 e)
 
-pub eight_8 : (F : Filter) (fs : ℕ) (w : List ℤ) → (fs ≡ 16 → ⊥) → (fs ≡ 12 → ⊥) → down_to_8khz F fs w ≡ w
+pub eight_8 : (F : FilterNumbers) (fs : ℕ) (w : List ℤ) → (fs ≡ 16 → ⊥) → (fs ≡ 12 → ⊥) → down_to_8khz F fs w ≡ w
 unfolding down_to_8khz
 eight_8 F fs w g h = ap₂ (λ (t u : Bool). cond t (down2 w) (cond u (down2_3 F w) w)) (ne_eqb fs 16 g) (ne_eqb fs 12 h)
 
@@ -60,7 +59,7 @@ pub record FrameOf (fs nb : ℕ) (w : List ℤ) : Type 0 where
   pub rate : (fs ≡ 8) ⊎ ((fs ≡ 12) ⊎ (fs ≡ 16))
   pub size : length w ≡ (20 + 5 * nb) * fs
 
-pub length_eight : (F : Filter) {fs nb : ℕ} {w : List ℤ} → FrameOf fs nb w → length (down_to_8khz F fs w) ≡ (20 + 5 * nb) * 8
+pub length_eight : (F : FilterNumbers) {fs nb : ℕ} {w : List ℤ} → FrameOf fs nb w → length (down_to_8khz F fs w) ≡ (20 + 5 * nb) * 8
 length_eight F {fs} {nb} {w} s = by s.rate
   where
     by : (fs ≡ 8) ⊎ ((fs ≡ 12) ⊎ (fs ≡ 16)) → length (down_to_8khz F fs w) ≡ (20 + 5 * nb) * 8

@@ -6,11 +6,10 @@ use Rattle.zint.specs.Clamp.{sat}
 use Rattle.lists.specs.Fill.{tabulate}
 use Rattle.lists.specs.Signal.{sample}
 use Rattle.silk_resampler.specs.Down2.{down2}
-use Rattle.silk_resampler.specs.declared.filter.Filter.{Filter}
-use Rattle.silk_resampler.specs.Down23.{down2_3}
+use Rattle.silk_resampler.specs.Down23.{FilterNumbers, down2_3}
 
--- e, of the 12 kHz filter F, the rate fs and w: half the rate of 16 kHz, two thirds of 12 kHz, and w itself at 8 kHz
-unfoldable pub down_to_8khz : Filter → ℕ → List ℤ → List ℤ
+-- e, of the 12 kHz filter's numbers F, the rate fs and w: half the rate of 16 kHz, two thirds of 12 kHz, and w itself at 8 kHz
+unfoldable pub down_to_8khz : FilterNumbers → ℕ → List ℤ → List ℤ
 down_to_8khz F fs w = cond (eqb fs 16) (down2 w) (cond (eqb fs 12) (down2_3 F w) w)
 
 -- each sample with the one before it, held within 16 bits; the first alone

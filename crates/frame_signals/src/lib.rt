@@ -6,7 +6,7 @@ ghost use Rattle.std.specs.Prelude.{◌≡◌, ◌*◌, ◌/◌, ◌^◌, ◌≤
 ghost use Rattle.lists.specs.Fill.{filled, overwritten};
 ghost use Rattle.lists.specs.Signal.{sample};
 ghost use Rattle.silk_resampler.specs.Down2.{down2};
-ghost use Rattle.silk_resampler.specs.Down23.{down2_3};
+ghost use Rattle.silk_resampler.specs.Down23.{filter_numbers, down2_3};
 ghost use Rattle.frame_signals.specs.Scale.{down_shift, shifted_at, moved_count, holder};
 ghost use Rattle.frame_signals.specs.Signals.{down_to_8khz, two_tap, down_to_4khz};
 
@@ -58,7 +58,7 @@ fn halve_into(frame: &[i16], out: &mut [i16])
 // Two thirds of the rate by a filter, from states of 0.
 fn two_thirds_into(frame: &[i16], out: &mut [i16], filter: Filter)
     requires { (2 * (length frame.now / 3) ≤ length out.old) × (length frame.now ≤ 480) }
-    ensures { out.new ≡ overwritten (down2_3 filter frame.now) out.old }
+    ensures { out.new ≡ overwritten (down2_3 (filter_numbers filter) frame.now) out.old }
 {
     let mut filt_state = [0i32; 6];
     silk_resampler_down2_3(&mut filt_state, out, frame, frame.len(), filter);
@@ -67,8 +67,8 @@ fn two_thirds_into(frame: &[i16], out: &mut [i16], filter: Filter)
 // The working frame at 8 kHz, in the first places of out, at 12 kHz by a filter; at 8 kHz it is a copy.
 // The rate stays a number: lags and lengths are multiples of it. Any other counts as 8.
 pub fn frame_8khz(frame: &[i16], out: &mut [i16], fs_khz: usize, filter: Filter)
-    requires { (length (down_to_8khz filter fs_khz frame.now) ≤ length out.old) × (fs_khz ≡ 12 → length frame.now ≤ 480) }
-    ensures { out.new ≡ overwritten (down_to_8khz filter fs_khz frame.now) out.old }
+    requires { (length (down_to_8khz (filter_numbers filter) fs_khz frame.now) ≤ length out.old) × (fs_khz ≡ 12 → length frame.now ≤ 480) }
+    ensures { out.new ≡ overwritten (down_to_8khz (filter_numbers filter) fs_khz frame.now) out.old }
 {
     if fs_khz == 16 {
         halve_into(frame, out);

@@ -8,7 +8,7 @@ use Rattle.pitch_settings.specs.Settings.{settings_no, frame_length}
 use Rattle.pitch_table.specs.declared.Row.{Row}
 use Rattle.pitch_table.specs.Row.{numbers, pair_lag, voiced_row, unpitched_row}
 use Rattle.frame_signals.specs.Scale.{scaled}
-use Rattle.silk_resampler.specs.Down23.{source_filter}
+use Rattle.silk_resampler.specs.Down23.{filter_numbers, source_filter}
 use Rattle.frame_signals.specs.Signals.{down_to_8khz, down_to_4khz}
 use Rattle.stage1.specs.Stage1.{stage1, kept_lags, Screen, ZeroDivisor as Zero1, Unvoiced as Unvoiced1, Goes}
 use Rattle.stage2.specs.Stage2.{stage2, Stage2, ZeroDivisor as Zero2, Unvoiced as Unvoiced2, Winner}
@@ -20,7 +20,7 @@ use Rattle.silk_pitch_analysis.specs.declared.Verdict.TheVariants.{Voiced, Unvoi
 -- ---- the signals: the working frame w, its 8 kHz form e and its 4 kHz form f
 
 abbrev pub signal8 : Settings → List ℤ → List ℤ
-signal8 s w = down_to_8khz source_filter s.rate w
+signal8 s w = down_to_8khz (filter_numbers source_filter) s.rate w
 
 abbrev pub signal4 : Settings → List ℤ → List ℤ
 signal4 s w = down_to_4khz (signal8 s w)

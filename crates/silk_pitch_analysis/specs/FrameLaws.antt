@@ -16,7 +16,7 @@ use Rattle.silk_tables.specs.Tables.{contours, in_use, greatest_lag, greatest_in
 use Rattle.silk_tables.proofs.TableLaws.{in_use_bounds}
 use Rattle.silk_tables.specs.Rebuild.{carried, CarriedPair}
 use Rattle.silk_tables.specs.CarriedLaws.{carried_pair, carried_yes}
-use Rattle.silk_resampler.specs.Down23.{source_filter}
+use Rattle.silk_resampler.specs.Down23.{filter_numbers, source_filter}
 use Rattle.frame_signals.specs.Signals.{down_to_8khz, down_to_4khz}
 use Rattle.frame_signals.specs.SignalLaws.{length_eight, length_four}
 use Rattle.stage3.specs.Stage3.{stage3, Handed}
@@ -79,12 +79,12 @@ module _ (s : Settings) (w : List ℤ) (h : settings_no s ≡ 0) (len : length w
 -- ---- the signals of a working frame
 
 module _ (s : Settings) (w : List ℤ) (h : settings_no s ≡ 0) (len : length w ≡ frame_length s) where
-  pub eight_length : length (down_to_8khz source_filter s.rate w) ≡ (20 + 5 * s.nb) * 8
+  pub eight_length : length (down_to_8khz (filter_numbers source_filter) s.rate w) ≡ (20 + 5 * s.nb) * 8
   unfolding frame_length
-  eight_length = length_eight source_filter (record { rate = (accepted_settings s h).rate; size = len })
+  eight_length = length_eight (filter_numbers source_filter) (record { rate = (accepted_settings s h).rate; size = len })
 
-  pub four_length : length (down_to_4khz (down_to_8khz source_filter s.rate w)) ≡ (20 + 5 * s.nb) * 4
-  four_length = length_four (down_to_8khz source_filter s.rate w) ∙ omega (arith, eight_length)
+  pub four_length : length (down_to_4khz (down_to_8khz (filter_numbers source_filter) s.rate w)) ≡ (20 + 5 * s.nb) * 4
+  four_length = length_four (down_to_8khz (filter_numbers source_filter) s.rate w) ∙ omega (arith, eight_length)
 
   -- at 12 kHz a frame has at most 480 samples
   pub at_12 : s.rate ≡ 12 → length w ≤ 480

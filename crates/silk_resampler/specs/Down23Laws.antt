@@ -13,19 +13,18 @@ use Rattle.silk_macros.specs.MacroLaws.{smulwb_fits}
 use Rattle.lists.specs.Fill.{tabulate, filled}
 use Rattle.lists.specs.FillLaws.{filled_all, take_filled, length_tabulate, length_filled, get_or-filled, tabulate_ext, filled_ext}
 use Rattle.lists.specs.Signal.{sample}
-use Rattle.silk_resampler.specs.Down23.{States, ar2_out, feedback, first_next, ar2_states, filtered, states_of, with_states, weighted, rounded, even_out, odd_out, decimated, after_history, buffer, down2_3}
-use Rattle.silk_resampler.specs.declared.filter.Filter.{Filter}
+use Rattle.silk_resampler.specs.Down23.{FilterNumbers, States, ar2_out, feedback, first_next, ar2_states, filtered, states_of, with_states, weighted, rounded, even_out, odd_out, decimated, after_history, buffer, down2_3}
 use Rattle.silk_resampler.specs.Down2Laws.{table_fits}
 
 -- ---- a step of the code: what the second state, the output's part and the feedback sum to, each wrapped
 
-pub first_words : (F : Filter) (a t o : ℤ) → wrap w32 (wrap w32 (t +ℤ wrap w32 (o *ℤ pos F.adds)) +ℤ smulwb (wrap w32 (o *ℤ pos F.factor)) a) ≡ first_next F a t o
+pub first_words : (F : FilterNumbers) (a t o : ℤ) → wrap w32 (wrap w32 (t +ℤ wrap w32 (o *ℤ pos F.adds)) +ℤ smulwb (wrap w32 (o *ℤ pos F.factor)) a) ≡ first_next F a t o
 unfolding first_next feedback
 first_words F a t o = simp wraps
 
 -- ---- the recursion: one turn, and widths
 
-module _ (F : Filter) (a b : ℤ) (s : States) (x : ℕ → ℤ) (k : ℕ) where
+module _ (F : FilterNumbers) (a b : ℤ) (s : States) (x : ℕ → ℤ) (k : ℕ) where
   first_turn : (ar2_states F a b s x (k + 1)).first ≡ first_next F a (ar2_states F a b s x k).second (filtered F a b s x k)
   unfolding ar2_states filtered
   first_turn = ap (λ (m : ℕ). (ar2_states F a b s x m).first) (add-one k)
@@ -38,16 +37,16 @@ out_fits : (s a : ℤ) → SFits w32 (ar2_out s a)
 unfolding ar2_out
 out_fits s a = wrap_fits w32 (s +ℤ a *ℤ pos 256)
 
-first_fits : (F : Filter) (a t o : ℤ) → SFits w32 (first_next F a t o)
+first_fits : (F : FilterNumbers) (a t o : ℤ) → SFits w32 (first_next F a t o)
 unfolding first_next
 first_fits F a t o = wrap_fits w32 (t +ℤ o *ℤ pos F.adds +ℤ feedback F a o)
 
-feedback_fits : (F : Filter) (a o : ℤ) → SFits w32 (feedback F a o)
+feedback_fits : (F : FilterNumbers) (a o : ℤ) → SFits w32 (feedback F a o)
 unfolding feedback
 feedback_fits F a o = smulwb_fits a (wrap_fits w32 (o *ℤ pos F.factor))
 
 -- one turn of the code, of the coefficients, states and sample that it reads: the states after it, and the output
-pub ar2_turn : (F : Filter) (a b : ℤ) (s : States) (x : ℕ → ℤ) (k : ℕ) {c d p q v n m o : ℤ} → c ≡ a → d ≡ b → p ≡ (ar2_states F a b s x k).first → q ≡ (ar2_states F a b s x k).second → v ≡ x k
+pub ar2_turn : (F : FilterNumbers) (a b : ℤ) (s : States) (x : ℕ → ℤ) (k : ℕ) {c d p q v n m o : ℤ} → c ≡ a → d ≡ b → p ≡ (ar2_states F a b s x k).first → q ≡ (ar2_states F a b s x k).second → v ≡ x k
     → (n ≡ first_next F c q (ar2_out p v)) × (m ≡ feedback F d (ar2_out p v)) × (o ≡ ar2_out p v)
     → (to_z w32 (of_z w32 n) ≡ (ar2_states F a b s x (k + 1)).first) × (to_z w32 (of_z w32 m) ≡ (ar2_states F a b s x (k + 1)).second) × (to_z w32 (of_z w32 o) ≡ filtered F a b s x k)
 unfolding filtered
@@ -62,7 +61,7 @@ ar2_turn F a b s x k ec ed ep eq ev e =
 
 -- ---- the outputs: one turn of two, widths, and what they depend on
 
-module _ (F : Filter) (b : ℕ → ℤ) (m : ℕ) where
+module _ (F : FilterNumbers) (b : ℕ → ℤ) (m : ℕ) where
   pub decimated_even : even_out F b m ≡ decimated F b (2 * m)
   unfolding decimated
   decimated_even =
@@ -81,7 +80,7 @@ pub rounded_fits : (s : ℕ) (z : ℤ) → SFits w16 (rounded s z)
 unfolding rounded
 rounded_fits s z = sat_fits w16 (rshift_round z s)
 
-pub decimated_fits : (F : Filter) (b : ℕ → ℤ) (j : ℕ) → SFits w16 (decimated F b j)
+pub decimated_fits : (F : FilterNumbers) (b : ℕ → ℤ) (j : ℕ) → SFits w16 (decimated F b j)
 unfolding decimated even_out odd_out
 decimated_fits F b j = by (eqb (j % 2) 0)
   where
@@ -100,7 +99,7 @@ module _ {b b' : ℕ → ℤ} where
       λ i. smlawb (smlawb (smlawb (smulwb (w i) c) (x i) d) (y i) e) (z i) f
 
   -- the outputs of m triples read 3 m + 2 values
-  pub decimated_ext : (F : Filter) (m j : ℕ) → j < 2 * m → ((i : ℕ) → i < 3 * m + 2 → b i ≡ b' i) → decimated F b j ≡ decimated F b' j
+  pub decimated_ext : (F : FilterNumbers) (m j : ℕ) → j < 2 * m → ((i : ℕ) → i < 3 * m + 2 → b i ≡ b' i) → decimated F b j ≡ decimated F b' j
   unfolding decimated even_out odd_out
   decimated_ext F m j l h =
       let p = ap (rounded F.round_even) (weighted_ext (pos 4697) (pos 10739) (pos 8276) (pos 1567) (3 * (j / 2)) (λ i g. h i (omega arith))) in
@@ -165,7 +164,7 @@ with_part s l = ap (λ (t : List ℤ). s.first ∷ s.second ∷ (t ++ drop 2 l))
     none (a ∷ []) = refl
     none (a ∷ b ∷ t) = refl
 
-module _ (F : Filter) (s : List ℤ) (x : ℕ → ℤ) (m : ℕ) (b : List ℤ) (h : (k : ℕ) → k < 4 + m → sample b k ≡ buffer F s x k) where
+module _ (F : FilterNumbers) (s : List ℤ) (x : ℕ → ℤ) (m : ℕ) (b : List ℤ) (h : (k : ℕ) → k < 4 + m → sample b k ≡ buffer F s x k) where
   -- the outputs of a batch whose buffer is b
   pub batch_out : (out : List ℤ) → filled (decimated F (sample b)) (2 * (m / 3)) out ≡ filled (decimated F (buffer F s x)) (2 * (m / 3)) out
   batch_out out = filled_ext (2 * (m / 3)) out (λ j l. decimated_ext F (m / 3) j l (λ i g. h i (omega arith)))
@@ -187,18 +186,18 @@ module _ (F : Filter) (s : List ℤ) (x : ℕ → ℤ) (m : ℕ) (b : List ℤ) 
 
 -- ---- a frame
 
-pub down2_3-length : (F : Filter) (xs : List ℤ) → length (down2_3 F xs) ≡ 2 * (length xs / 3)
+pub down2_3-length : (F : FilterNumbers) (xs : List ℤ) → length (down2_3 F xs) ≡ 2 * (length xs / 3)
 unfolding down2_3
 down2_3-length F xs = length_tabulate (decimated F (buffer F (replicate 6 (pos 0)) (sample xs))) (2 * (length xs / 3))
 
-pub down2_3_fits : (F : Filter) (xs : List ℤ) (k : ℕ) → SFits w16 (sample (down2_3 F xs) k)
+pub down2_3_fits : (F : FilterNumbers) (xs : List ℤ) (k : ℕ) → SFits w16 (sample (down2_3 F xs) k)
 unfolding down2_3
 down2_3_fits F xs k =
     let b = buffer F (replicate 6 (pos 0)) (sample xs) in
     table_fits w16 (decimated F b) (2 * (length xs / 3)) (decimated_fits F b) (record { sfits = omega arith }) k
 
 -- what a call for m samples leaves in a slice of just the outputs' number, and in the first places of a longer one
-module _ (F : Filter) (xs out : List ℤ) (m : ℕ) (e : m ≡ length xs) where
+module _ (F : FilterNumbers) (xs out : List ℤ) (m : ℕ) (e : m ≡ length xs) where
   pub down2_3_whole : length out ≡ 2 * (m / 3) → filled (decimated F (buffer F (replicate 6 (pos 0)) (sample xs))) (2 * (m / 3)) out ≡ down2_3 F xs
   unfolding down2_3
   down2_3_whole l =

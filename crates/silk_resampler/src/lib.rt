@@ -5,7 +5,7 @@ ghost use Rattle.std.specs.Prelude.{◌≡◌, ◌+◌, ◌*◌, ◌/◌, ◌≤
 ghost use Rattle.lists.specs.Fill.{filled};
 ghost use Rattle.lists.specs.Signal.{sample};
 ghost use Rattle.silk_resampler.specs.Down2.{even_next, odd_next, half_of, halved, down2_states};
-ghost use Rattle.silk_resampler.specs.Down23.{source_filter, ar2_out, feedback, first_next, ar2_states, filtered, states_of, with_states, weighted, rounded, even_out, odd_out, decimated, buffer, down2_3_states};
+ghost use Rattle.silk_resampler.specs.Down23.{filter_numbers, source_filter, ar2_out, feedback, first_next, ar2_states, filtered, states_of, with_states, weighted, rounded, even_out, odd_out, decimated, buffer, down2_3_states};
 
 mod filter;
 
@@ -89,7 +89,7 @@ pub fn source_filter() -> Filter
 
 // One step of the recursion, of the sample x.
 fn ar2_step(s0: i32, s1: i32, x: i16, a0: i32, a1: i32, filter: Filter) -> Step<i32>
-    ensures { (result.s0 ≡ first_next filter a0 s1 (ar2_out s0 x)) × (result.s1 ≡ feedback filter a1 (ar2_out s0 x)) × (result.out ≡ ar2_out s0 x) }
+    ensures { (result.s0 ≡ first_next (filter_numbers filter) a0 s1 (ar2_out s0 x)) × (result.s1 ≡ feedback (filter_numbers filter) a1 (ar2_out s0 x)) × (result.out ≡ ar2_out s0 x) }
 {
     let out = wrapping_add_i32(s0, (x as i32) << 8);
     let fed = wrapping_mul_i32(out, filter.factor as i32);
@@ -114,8 +114,8 @@ pub fn silk_resampler_private_ar2(
     filter: Filter,
 )
     requires { (2 ≤ length s.old) × ((len ≤ length out_q8.old) × ((len ≤ length input.now) × (2 ≤ length a_q14.now))) }
-    ensures out_q8_after { out_q8.new ≡ filled (filtered filter (sample a_q14.now 0) (sample a_q14.now 1) (states_of s.old) (sample input.now)) len out_q8.old }
-    ensures s_after { s.new ≡ with_states (ar2_states filter (sample a_q14.now 0) (sample a_q14.now 1) (states_of s.old) (sample input.now) len) s.old }
+    ensures out_q8_after { out_q8.new ≡ filled (filtered (filter_numbers filter) (sample a_q14.now 0) (sample a_q14.now 1) (states_of s.old) (sample input.now)) len out_q8.old }
+    ensures s_after { s.new ≡ with_states (ar2_states (filter_numbers filter) (sample a_q14.now 0) (sample a_q14.now 1) (states_of s.old) (sample input.now) len) s.old }
 {
     let a0 = a_q14[0] as i32;
     let a1 = a_q14[1] as i32;
@@ -152,7 +152,7 @@ fn weighted_output(buf: &[i32], p: usize, c: i16, d: i16, e: i16, f: i16, shift:
 // Output 2m.
 fn even_output(buf: &[i32], m: usize, filter: Filter) -> i16
     requires { 3 * m + 4 ≤ length buf.now }
-    ensures { result ≡ even_out filter (sample buf.now) m }
+    ensures { result ≡ even_out (filter_numbers filter) (sample buf.now) m }
 {
     let c = SILK_RESAMPLER_2_3_COEFS_LQ;
     weighted_output(buf, 3 * m, c[2], c[3], c[5], c[4], filter.round_even)
@@ -162,7 +162,7 @@ fn even_output(buf: &[i32], m: usize, filter: Filter) -> i16
 // Not one function with a flag: place, order of the coefficients and rounding all differ.
 fn odd_output(buf: &[i32], m: usize, filter: Filter) -> i16
     requires { 3 * m + 5 ≤ length buf.now }
-    ensures { result ≡ odd_out filter (sample buf.now) m }
+    ensures { result ≡ odd_out (filter_numbers filter) (sample buf.now) m }
 {
     let c = SILK_RESAMPLER_2_3_COEFS_LQ;
     weighted_output(buf, 3 * m + 1, c[4], c[5], c[3], c[2], filter.round_odd)
@@ -172,7 +172,7 @@ fn odd_output(buf: &[i32], m: usize, filter: Filter) -> i16
 // By a number of turns and not by the lengths of slices: those of out and buf would differ, 2n and 3n + 2.
 fn decimate(out: &mut [i16], buf: &[i32], n: usize, filter: Filter)
     requires { (2 * n ≤ length out.old) × (3 * n + 2 ≤ length buf.now) }
-    ensures { out.new ≡ filled (decimated filter (sample buf.now)) (2 * n) out.old }
+    ensures { out.new ≡ filled (decimated (filter_numbers filter) (sample buf.now)) (2 * n) out.old }
 {
     for m in 0..n {
         let even = even_output(buf, m, filter);
@@ -191,8 +191,8 @@ pub fn silk_resampler_down2_3(
     filter: Filter,
 )
     requires { (6 ≤ length s.old) × ((2 * (in_len / 3) ≤ length out.old) × ((in_len ≤ length input.now) × (in_len ≤ 480))) }
-    ensures out_after { out.new ≡ filled (decimated filter (buffer filter s.old (sample input.now))) (2 * (in_len / 3)) out.old }
-    ensures s_after { s.new ≡ down2_3_states filter s.old (sample input.now) in_len }
+    ensures out_after { out.new ≡ filled (decimated (filter_numbers filter) (buffer (filter_numbers filter) s.old (sample input.now))) (2 * (in_len / 3)) out.old }
+    ensures s_after { s.new ≡ down2_3_states (filter_numbers filter) s.old (sample input.now) in_len }
 {
     let mut buf = [0i32; RESAMPLER_MAX_BATCH_SIZE_IN + ORDER_FIR];
     buf[..ORDER_FIR].copy_from_slice(&s[..ORDER_FIR]);

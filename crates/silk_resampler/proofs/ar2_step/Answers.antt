@@ -4,7 +4,7 @@ use Rattle.zint.specs.ReadLaws.{r_var, r_as, r_call2, r_shl, wide_32}
 use Rattle.zint.specs.Wrap.{wrap}
 use Rattle.zint.specs.WrapLaws.{wraps}
 use Rattle.silk_macros.specs.Macros.{smulwb}
-use Rattle.silk_resampler.specs.Down23.{ar2_out, feedback}
+use Rattle.silk_resampler.specs.Down23.{filter_numbers, ar2_out, feedback}
 use Rattle.silk_resampler.specs.Down23Laws.{first_words}
 use Rattle.silk_resampler.proofs.ar2_step.Goals as goal
 
@@ -38,4 +38,4 @@ returns c =
     let f0 = r_call2 w32 smulwb c.silk_smulwb.type_inv fed (r_var f.a0) c.silk_smulwb.ensures in
     let n0 = r_call2 w32 add c.wrapping_add_i32-n0.type_inv added f0 c.wrapping_add_i32-n0.ensures in
     let n1 = r_call2 w32 smulwb c.silk_smulwb-n1.type_inv fed (r_var f.a1) c.silk_smulwb-n1.ensures in
-    (n0.val ∙ first_words a.filter a.a0 a.s1 (ar2_out a.s0 a.x), n1.val, o.val)
+    (n0.val ∙ first_words (filter_numbers a.filter) a.a0 a.s1 (ar2_out a.s0 a.x), n1.val, o.val)

@@ -5,13 +5,12 @@ use borrow.Rule.Slice.PartMut.{put_mid}
 use Rattle.lists.specs.Fill.{filled}
 use Rattle.lists.specs.FillLaws.{filled_copied}
 use Rattle.lists.specs.Signal.{sample}
-use Rattle.silk_resampler.specs.declared.filter.Filter.{Filter}
-use Rattle.silk_resampler.specs.Down23.{States, ar2_states, filtered, states_of, with_states, buffer, down2_3_states}
+use Rattle.silk_resampler.specs.Down23.{FilterNumbers, filter_numbers, States, ar2_states, filtered, states_of, with_states, buffer, down2_3_states}
 use Rattle.silk_resampler.specs.Down23Laws.{batch_at, batch_out, batch_left, states_part}
 use Rattle.silk_resampler.proofs.silk_resampler_down2_3.Goals as goal
 
 -- the buffer after the recursion: what it holds, of the copied history and of the part that the recursion left
-buffer_at : (F : Filter) (s : List ℤ) (x : ℕ → ℤ) (m : ℕ) {copied part : List ℤ} → m ≤ 480 → copied ≡ filled (sample s) 4 (replicate 484 (pos 0))
+buffer_at : (F : FilterNumbers) (s : List ℤ) (x : ℕ → ℤ) (m : ℕ) {copied part : List ℤ} → m ≤ 480 → copied ≡ filled (sample s) 4 (replicate 484 (pos 0))
     → part ≡ filled (filtered F (negsuc 2796) (negsuc 6506) (states_of (take 2 (drop 4 s))) x) m (take (4 + m - 4) (drop 4 copied))
     → (k : ℕ) → k < 4 + m → sample (put_mid 4 (4 + m - 4) copied part) k ≡ buffer F s x k
 unfolding buffer
@@ -22,7 +21,7 @@ buffer_at F s x m {copied} h ec ep =
 pub returns : goal.returns
 unfolding down2_3_states sample
 returns c =
-    let F = c.args.filter in
+    let F = filter_numbers c.args.filter in
     let s = c.args.s.now in
     let x = sample c.args.input.now in
     let m = c.args.in_len in

@@ -5,7 +5,7 @@ use Rattle.zint.specs.RuleLaws.{zneeds}
 use Rattle.lists.specs.Fill.{filled}
 use Rattle.lists.specs.FillLaws.{filled_none, filled_turn}
 use Rattle.lists.specs.Signal.{sample}
-use Rattle.silk_resampler.specs.Down23.{ar2_states, filtered, states_of, with_states}
+use Rattle.silk_resampler.specs.Down23.{filter_numbers, ar2_states, filtered, states_of, with_states}
 use Rattle.silk_resampler.specs.Down2Laws.{set_two}
 use Rattle.silk_resampler.specs.Down23Laws.{ar2_turn}
 use Rattle.silk_resampler.proofs.silk_resampler_private_ar2.Goals as goal
@@ -24,14 +24,14 @@ loop-k-preserved c =
     let a0 = (wide_32 (record { sfits = c.a0-1.given })).val in
     let a1 = (wide_32 (record { sfits = c.a1-1.given })).val in
     let v = (r_elem w16 _ c.ar2_step-arg-1.given).val in
-    let t = ar2_turn r.filter (sample r.a_q14.now 0) (sample r.a_q14.now 1) (states_of r.s.now) (sample r.input.now) k a0 a1 i.1.0 i.1.1.0 v c.ar2_step-step.ensures in
+    let t = ar2_turn (filter_numbers r.filter) (sample r.a_q14.now 0) (sample r.a_q14.now 1) (states_of r.s.now) (sample r.input.now) k a0 a1 i.1.0 i.1.1.0 v c.ar2_step-step.ensures in
     (g, (simp length-set i.0, (t.0, (t.1, filled_turn _ k r.out_q8.now i.1.1.1 t.2 (omega arith)))))
 
 pub returns : goal.returns
 unfolding with_states
 returns c =
     let r = c.args in
-    let F = r.filter in
+    let F = filter_numbers r.filter in
     let s = r.s.now in
     let x = sample r.input.now in
     let a = sample r.a_q14.now 0 in

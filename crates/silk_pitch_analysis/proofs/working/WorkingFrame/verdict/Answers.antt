@@ -5,7 +5,7 @@ use Rattle.pitch_settings.specs.declared.Settings.{Settings}
 use Rattle.pitch_settings.specs.Settings.{settings_no, frame_length}
 use Rattle.pitch_settings.specs.SettingsLaws.{accepted_settings}
 use Rattle.silk_resampler.specs.declared.Filter.{Filter}
-use Rattle.silk_resampler.specs.Down23.{source_filter}
+use Rattle.silk_resampler.specs.Down23.{filter_numbers, source_filter}
 use Rattle.frame_signals.specs.Signals.{down_to_8khz, down_to_4khz}
 use Rattle.frame_signals.specs.SignalLaws.{take_overwritten}
 use Rattle.stage1.specs.Stage1.{stage1}
@@ -18,9 +18,9 @@ use Rattle.silk_pitch_analysis.proofs.working.WorkingFrame.verdict.Goals as goal
 
 module _ (s : Settings) (w : List ℤ) (h : settings_no s ≡ 0) (len : length w ≡ frame_length s) where
   -- the 8 kHz signal, in the front of its buffer
-  eight_front : {F : Filter} {buf : List ℤ} → F ≡ source_filter → buf ≡ overwritten (down_to_8khz F s.rate w) (replicate 320 (pos 0)) → take ((20 + 5 * s.nb) * 8) buf ≡ signal8 s w
+  eight_front : {F : Filter} {buf : List ℤ} → F ≡ source_filter → buf ≡ overwritten (down_to_8khz (filter_numbers F) s.rate w) (replicate 320 (pos 0)) → take ((20 + 5 * s.nb) * 8) buf ≡ signal8 s w
   eight_front f e =
-      ap (take ((20 + 5 * s.nb) * 8)) (e ∙ ap (λ (F : Filter). overwritten (down_to_8khz F s.rate w) (replicate 320 (pos 0))) f)
+      ap (take ((20 + 5 * s.nb) * 8)) (e ∙ ap (λ (F : Filter). overwritten (down_to_8khz (filter_numbers F) s.rate w) (replicate 320 (pos 0))) f)
       ∙ take_overwritten _ _ ((20 + 5 * s.nb) * 8) (eight_length s w h len)
 
   -- and the 4 kHz signal
@@ -50,8 +50,8 @@ overflow_mul-n4-2 c = omega (arith, (accepted_settings _ c.args.self.settings.an
 pub frame_8khz-requires : goal.frame_8khz-requires
 frame_8khz-requires c =
     let a = c.args in
-    let l : length (down_to_8khz c.source_filter.result a.self.settings.settings.rate a.self.samples.now) ≡ (20 + 5 * a.self.settings.settings.nb) * 8 =
-    ap (λ (F : Filter). length (down_to_8khz F a.self.settings.settings.rate a.self.samples.now)) c.source_filter.ensures ∙ eight_length a.self.settings.settings a.self.samples.now c.args.self.settings.analysed c.args.self.whole in
+    let l : length (down_to_8khz (filter_numbers c.source_filter.result) a.self.settings.settings.rate a.self.samples.now) ≡ (20 + 5 * a.self.settings.settings.nb) * 8 =
+    ap (λ (F : Filter). length (down_to_8khz (filter_numbers F) a.self.settings.settings.rate a.self.samples.now)) c.source_filter.ensures ∙ eight_length a.self.settings.settings a.self.samples.now c.args.self.settings.analysed c.args.self.whole in
     (omega (arith, l, (accepted_settings _ c.args.self.settings.analysed).nb_high), at_12 a.self.settings.settings a.self.samples.now c.args.self.settings.analysed c.args.self.whole)
 
 pub slice_bounds-buf_8khz-end : goal.slice_bounds-buf_8khz-end
