@@ -1,7 +1,7 @@
 // What a page holds, read by place: whether it is a sheet, its settings, its frames and their rows.
 #![tactic(auto)]
 
-ghost use Rattle.std.specs.Prelude.{true, ◌&&◌, ◌≡◌, ◌+◌, ◌*◌, ◌<◌, ◌≤◌, length, ◌↔◌, IsSome, IfSome, IfNone, Some, None, IfOk};
+ghost use Rattle.std.specs.Prelude.{true, cond, ◌&&◌, ◌≡◌, ◌+◌, ◌*◌, ◌<◌, ◌≤◌, length, ◌↔◌, IsSome, IfSome, IfNone, Some, None, IfOk};
 ghost use Rattle.refusals.specs.Refusals.{number_told};
 ghost use Rattle.std.proofs.lemmas.List.Edits.{sets};
 ghost use Rattle.sheet_page.specs.Page.{sheet_settings, frames_in, voiced_before, voiced_in, row_in, head_good, sizes_good, rows_good, page_no, rows_in, numbers_of};
@@ -162,20 +162,20 @@ impl Sections<'_> {
         }
     }
 
-    // Whether every row can be read.
+    // Reads every row: refusal 9 at the first that no sheet has.
     #[tactic(auto, using(crate::specs::PageLaws::voiced_none, crate::specs::PageLaws::voiced_le, crate::specs::PageLaws::rows_no, crate::specs::PageLaws::rows_yes))]
-    fn rows_good(self) -> bool
-        ensures { result ≡ rows_good self.entry.page.now }
+    fn check_rows(self) -> Result<(), Refusal>
+        ensures { number_told result ≡ cond (rows_good self.entry.page.now) 0 9 }
     {
         let mut seen = 0;
         // by the frames' numbers: where a row stands follows from its frame and from how many before it are voiced
         for i in 0..self.frames {
             let Some((_, next)) = self.row_and_seen(i, seen) else {
-                return false;
+                return Err(Refusal::Malformed);
             };
             seen = next;
         }
-        true
+        Ok(())
     }
 }
 
@@ -194,11 +194,8 @@ impl SheetPage<'_> {
         ensures page { IfOk result (λ s. s.sections.page.now ≡ page.now) }
     {
         let sections = Sections::of(page).ok_or(Refusal::Malformed)?;
-        if sections.rows_good() {
-            Ok(SheetPage { sections })
-        } else {
-            Err(Refusal::Malformed)
-        }
+        sections.check_rows()?;
+        Ok(SheetPage { sections })
     }
 
     // The rows of the sheet, written whole.

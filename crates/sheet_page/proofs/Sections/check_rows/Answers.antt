@@ -1,7 +1,7 @@
--- `Sections::rows_good` meets its contract.
+-- `Sections::check_rows` meets its contract.
 use Rattle.std.proofs.Common.{◌≡◌, true, ap, arith, ℕ, below_more}
 use Rattle.sheet_page.specs.Page.{row_in, readable}
-use Rattle.sheet_page.proofs.Sections.rows_good.Goals as goal
+use Rattle.sheet_page.proofs.Sections.check_rows.Goals as goal
 
 pub loop-i-preserved : goal.loop-i-preserved
 unfolding readable
