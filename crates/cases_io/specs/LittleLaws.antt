@@ -1,12 +1,13 @@
 -- Laws of little-endian numbers: past the end they are 0, so that a place may be cut to the end; and one element more of a load and of a comparison.
-use Rattle.std.specs.Prelude.{◌≡◌, ℕ, zero, suc, ◌+◌, ◌<◌, ◌≤◌, min, Bool, true, false, ◌&&◌, List, [], ◌∷◌, length, ◌*◌, pos, Some, None, slice_get, slice_index, slice_set, refl}
+use Rattle.std.specs.Prelude.{◌≡◌, ℕ, zero, suc, ◌+◌, ◌-◌, ◌<◌, ◌≤◌, min, Bool, true, false, ◌&&◌, List, [], ◌∷◌, length, replicate, take, drop, ◌*◌, pos, Some, None, slice_get, slice_index, slice_set, refl}
 use Rattle.std.proofs.Math.Bool.{and-false}
 use Rattle.std.specs.Int.{w16, w32, w64, from_le_bytes}
-use Rattle.std.proofs.Common.{sym, ap, ap₂, ◌∙◌, subst, add-one, arith, length-set}
+use Rattle.std.specs.Array.{IsFirstChunk}
+use Rattle.std.proofs.Common.{sym, ap, ap₂, ◌∙◌, subst, add-one, arith, length-set, length-drop, length-take-le, get_or-drop, get_or-take}
 use Rattle.std.proofs.Math.Decide.{dec_lt}
-use Rattle.std.proofs.lemmas.List.{get_or_past}
+use Rattle.std.proofs.lemmas.List.{get_or_past, length-replicate}
 use Rattle.lists.specs.Fill.{filled, tabulate}
-use Rattle.lists.specs.FillLaws.{filled_none, filled_turn}
+use Rattle.lists.specs.FillLaws.{filled_none, filled_turn, filled_all, tabulate_is, tail_part}
 use Rattle.zint.specs.Wrap.{wrap, mod_z}
 use Rattle.cases_io.specs.Little.{u16_at, u32_at, u64_at, i16_at, i32_at, is_number, agree, numbers_at}
 
@@ -66,6 +67,17 @@ eight_bytes xs at =
     let seventh : at + 6 ≡ at + 4 + 2 = omega arith in
     let eighth : at + 7 ≡ at + 4 + 2 + 1 = omega arith in
     omega (arith, ap (slice_index xs) first, ap (slice_index xs) fourth, ap (slice_index xs) sixth, ap (slice_index xs) seventh, ap (slice_index xs) eighth)
+
+-- the first n bytes from a place on, where all are there
+pub chunk_all : (xs ys : List ℕ) (at from n : ℕ) → from ≡ min at (length xs) → IsFirstChunk (take (length xs - from) (drop from xs)) ys n
+    → ys ≡ filled (numbers_at slice_index 1 xs at) n (replicate n 0)
+chunk_all xs ys at from n e first =
+    let there : IsFirstChunk (drop from xs) ys n = rw tail_part at first in
+    let long : n ≤ length xs - from = omega (arith, there.enough, length-drop from xs) in
+    rw there.same
+    (sym (filled_all _ n (replicate n 0) (omega (arith, length-replicate {A = ℕ} n 0)) ∙ tabulate_is _ n (take n (drop from xs)) 0 (sym (length-take-le n (drop from xs) there.enough)) (λ k b.
+    let place : at + 1 * k ≡ from + k = omega arith in
+    rw (get_or-take n (drop from xs) k 0 b, get_or-drop from xs k 0) (ap (slice_index xs) place))))
 
 pub i16_cut : (xs : List ℕ) (place from : ℕ) → from ≡ min place (length xs) → i16_at xs from ≡ i16_at xs place
 i16_cut xs = at_cut (pos 0) (i16_at xs) (length xs) (i16_past xs)

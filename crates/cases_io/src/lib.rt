@@ -2,7 +2,7 @@
 // byte past the end reads as 0, and so no place is out of range. Only `count`, `over_list` and `replay` have a `requires`: each kind has its place among the tallies, and what is given to call can be called.
 #![tactic(auto)]
 
-ghost use Rattle.std.specs.Prelude.{List, ℕ, ◌≡◌, ◌+◌, ◌*◌, ◌<◌, ◌≤◌, min, take, length, None, IfSome, IfOk, OnOk, slice_index};
+ghost use Rattle.std.specs.Prelude.{List, ℕ, ◌≡◌, ◌+◌, ◌*◌, ◌<◌, ◌≤◌, min, take, length, replicate, None, IfSome, IfOk, OnOk, slice_index};
 ghost use Rattle.std.specs.Io.{ReadsAtMost};
 ghost use Rattle.std.specs.Io.KnownBytes.{Appends, Consumes, IsAtEnd};
 ghost use Rattle.std.specs.Fn.{FnReturnsAt, FnOnceReturnsAt};
@@ -64,14 +64,33 @@ pub fn byte_at(bytes: &[u8], at: usize) -> u8
     if at < bytes.len() { bytes[at] } else { 0 }
 }
 
+// The N bytes at `at`, each of them 0 past the end, one by one.
+#[cold]
+fn chunk_cut<const N: usize>(bytes: &[u8], at: usize) -> [u8; N]
+    ensures { result ≡ filled (numbers_at slice_index 1 bytes.now at) N (replicate N 0) }
+{
+    let mut chunk = [0; N];
+    load(bytes, at, &mut chunk);
+    chunk
+}
+
+// The same: where all are there, which is nearly always, they are taken at once.
+fn chunk<const N: usize>(bytes: &[u8], at: usize) -> [u8; N]
+    ensures { result ≡ filled (numbers_at slice_index 1 bytes.now at) N (replicate N 0) }
+{
+    if let Some(chunk) = bytes[at.min(bytes.len())..].first_chunk() {
+        return *chunk;
+    }
+    chunk_cut(bytes, at)
+}
+
 // The number of two bytes at `at`, without sign.
-// Here and in the next two the type, its bytes and the law of its value differ; one function over a number of bytes would need a bound on that number, and these three beside it all the same.
+// Here and in the next two the type and the law of its value differ; what they share is `chunk`.
 #[tactic(auto, using(crate::specs::LittleLaws::two_bytes))]
 pub fn u16_at(bytes: &[u8], at: usize) -> u16
     ensures { result ≡ u16_at bytes.now at }
 {
-    let mut two = [0u8; 2];
-    load(bytes, at, &mut two);
+    let two: [u8; 2] = chunk(bytes, at);
     u16::from_le_bytes(two)
 }
 
@@ -80,8 +99,7 @@ pub fn u16_at(bytes: &[u8], at: usize) -> u16
 pub fn u32_at(bytes: &[u8], at: usize) -> usize
     ensures { (result ≡ u32_at bytes.now at) × (result < 4294967296) }
 {
-    let mut four = [0u8; 4];
-    load(bytes, at, &mut four);
+    let four: [u8; 4] = chunk(bytes, at);
     u32::from_le_bytes(four) as usize
 }
 
@@ -90,8 +108,7 @@ pub fn u32_at(bytes: &[u8], at: usize) -> usize
 pub fn usize_at(bytes: &[u8], at: usize) -> usize
     ensures { result ≡ u64_at bytes.now at }
 {
-    let mut eight = [0u8; 8];
-    load(bytes, at, &mut eight);
+    let eight: [u8; 8] = chunk(bytes, at);
     usize::from_le_bytes(eight)
 }
 

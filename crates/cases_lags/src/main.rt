@@ -39,8 +39,8 @@ fn is_of(bytes: &[u8], at: usize, s: LagSettings, index: usize, contour: usize) 
 // Whether the lag of subframe k is number k of those from `at` on.
 fn lag_agrees(bytes: &[u8], at: usize, s: LagSettings, index: i32, contour: i32, k: usize) -> bool {
     let place = skip(bytes, at, k.saturating_mul(2));
-    rebuilt_lag(s.fs_khz, s.nb_subfr, s.complexity, index, contour, k)
-        == Some(u16_at(bytes, place) as i32)
+    let lag = rebuilt_lag(s.fs_khz, s.nb_subfr, s.complexity, index, contour, k);
+    lag.is_some_and(|lag| lag == u16_at(bytes, place) as i32)
 }
 
 // Whether the lags of all subframes are those from `at` on.
@@ -48,20 +48,16 @@ fn lags_agree(bytes: &[u8], at: usize, s: LagSettings, index: i32, contour: i32)
     (0..s.nb_subfr).all(|k| lag_agrees(bytes, at, s, index, contour, k))
 }
 
-// One pair: its record, and the place after it.
+// One pair: its record, which has 6 bytes and 2 for each lag, and the place after it.
 fn pair(bytes: &[u8], run: Run, s: LagSettings, index: usize, contour: usize) -> Run
     requires { (index ≤ 256) × (contour < 34) }
 {
-    let lags = skip(bytes, run.at, 6);
-    let agrees = is_of(bytes, run.at, s, index, contour)
-        && lags_agree(bytes, lags, s, index as i32, contour as i32);
-    let after = if s.nb_subfr == 2 {
-        skip(bytes, lags, 4)
-    } else {
-        skip(bytes, lags, 8)
-    };
+    let record = &bytes[skip(bytes, run.at, 0)..];
+    let agrees = is_of(record, 0, s, index, contour)
+        && lags_agree(record, 6, s, index as i32, contour as i32);
+    let size = if s.nb_subfr == 2 { 10 } else { 14 };
     Run {
-        at: after,
+        at: skip(bytes, run.at, size),
         tally: run.tally.counted(agrees),
     }
 }
@@ -96,6 +92,7 @@ fn all_complexities<W: Write>(
     at: usize,
     fs_khz: usize,
     nb_subfr: usize,
+    name: &[u8],
 ) -> io::Result<usize> {
     let mut now = Run {
         at,
@@ -109,17 +106,19 @@ fn all_complexities<W: Write>(
         };
         now = all_indices(bytes, now, s);
     }
-    write!(output, "{fs_khz} kHz, {nb_subfr} subframes:")?;
-    now.tally.print(output, b"")?;
+    now.tally.print(output, name)?;
     Ok(now.at)
 }
 
 fn replay<W: Write>(output: &mut W, bytes: &[u8]) -> io::Result<()> {
     let mut at = 0;
-    for fs_khz in [8, 12, 16] {
-        for nb_subfr in [2, 4] {
-            at = all_complexities(output, bytes, at, fs_khz, nb_subfr)?;
-        }
+    for (fs_khz, two, four) in [
+        (8, "8 kHz, 2 subframes:", "8 kHz, 4 subframes:"),
+        (12, "12 kHz, 2 subframes:", "12 kHz, 4 subframes:"),
+        (16, "16 kHz, 2 subframes:", "16 kHz, 4 subframes:"),
+    ] {
+        at = all_complexities(output, bytes, at, fs_khz, 2, two.as_bytes())?;
+        at = all_complexities(output, bytes, at, fs_khz, 4, four.as_bytes())?;
     }
     Tally::none()
         .counted(at == bytes.len())

@@ -98,7 +98,9 @@ fn agrees(decimator: Decimator, case: &[u8]) -> bool {
 }
 
 // The bytes of a case; where no decimator has its kind, as many as for the last.
-fn size(case: &[u8]) -> usize {
+fn size(case: &[u8]) -> usize
+    ensures { 0 < result }
+{
     let n = samples(case);
     match decimator_of(case) {
         Some(Decimator::Down2) => 24 + 2 * n + 2 * (n / 2),

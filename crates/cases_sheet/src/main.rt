@@ -82,14 +82,16 @@ fn fill_by<T: Copy, F: Fn(usize) -> T>(places: &mut [T], told: F)
 }
 
 // Whether there are as many places as are new, and each holds what `told` says of it.
+// A loop and not `enumerate().all(..)`, which takes five instructions more a place.
 fn agree_by<T: PartialEq + Copy, F: Fn(usize) -> T>(places: &[T], new: usize, told: F) -> bool
     requires { F.IsAlwaysCallable told }
 {
+    for (i, place) in places.iter().enumerate() {
+        if *place != told(i) {
+            return false;
+        }
+    }
     new <= places.len()
-        && places
-            .iter()
-            .enumerate()
-            .all(|(i, place)| *place == told(i))
 }
 
 fn wrote_agrees(c: Case, answer: Result<usize, Refusal>) -> bool {

@@ -97,10 +97,7 @@ fn line<W: Write, A: Fn(Case) -> bool>(
         name,
         list,
         |_| 20,
-        |bytes| {
-            let case = case_of(bytes);
-            (case.operation == operation).then(|| agrees(case))
-        },
+        |bytes| (i32_at(bytes, 0) == operation).then(|| agrees(case_of(bytes))),
     )
 }
 
