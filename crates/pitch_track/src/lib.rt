@@ -8,7 +8,7 @@ ghost use Rattle.pitch_settings.specs.Settings.{frame_length, hop_length};
 ghost use Rattle.pitch_table.specs.Row.{row_size};
 ghost use Rattle.track_settings.specs.TrackSettings.{stored_settings};
 ghost use Rattle.track_paper.specs.Paper.{F, track_answer_numbers, row_type, after, previous, paper_numbers};
-ghost use Rattle.pitch_track.specs.Step.{said, start_no, start_call, delivery_no, frames_after, accepted_delivery, deliver_call, delivery_outcome};
+ghost use Rattle.pitch_track.specs.Step.{said, start_no, start_call, delivery_no, frames_after, deliver_call, delivery_outcome};
 
 mod pending;
 
@@ -123,17 +123,6 @@ impl Track {
         ensures table_after { delivery_outcome result table.new ≡ deliver_call self table.old samples.now }
         ensures answer_value { track_answer_numbers (told result.answer) ≡ answer_numbers (delivery_no self table.old samples.now) (pos (frames_after self samples.now) ∷ []) }
     {
-        let answer = self.take(samples, table);
-        Answered {
-            answer,
-            track: self,
-        }
-    }
-
-    // The delivery, to a track in its place.
-    fn take(&mut self, samples: &[i16], table: &mut [i32]) -> Result<usize, Refusal>
-        ensures { delivery_outcome (record { answer = result; track = self.new }) table.new ≡ deliver_call self.old table.old samples.now }
-    {
         let delivery = Delivery {
             signal_type: self.prev.signal,
             frames: self.frames,
@@ -141,20 +130,21 @@ impl Track {
             samples: samples.len(),
             numbers: table.len(),
         };
-        let k = delivery.check(track_limit(), self.settings)?;
-        Ok(self.advance(k, samples, table))
-    }
-
-    // The frames then done, after a delivery that is not refused.
-    fn advance(&mut self, k: AnalysedTrack, samples: &[i16], table: &mut [i32]) -> usize
-        requires settings { k.settings ≡ self.old.settings }
-        requires number { delivery_no self.old table.old samples.now ≡ 0 }
-        ensures { delivery_outcome (record { answer = Ok result; track = self.new }) table.new ≡ accepted_delivery self.old table.old samples.now (F (stored_settings self.old.settings) (self.old.count + length samples.now)) }
-    {
+        // a refusal returns here: where the answer is one of two arms, its track is copied once more
+        let k = match delivery.check(track_limit(), self.settings) {
+            Ok(k) => k,
+            Err(refusal) => {
+                return Answered {
+                    answer: Err(refusal),
+                    track: self,
+                };
+            }
+        };
         let framing = Framing::from(k.stored());
         let n = self.count + samples.len();
         let new = framing.frames_in(n);
         let from = new * framing.hop;
+        // a copy: where a part of the track itself is lent, more is copied
         let held = self.held;
         let pending = Pending {
             held: &held[..self.count],
@@ -167,6 +157,9 @@ impl Track {
         self.held = rest;
         self.count = left;
         self.prev = prev;
-        self.frames
+        Answered {
+            answer: Ok(self.frames),
+            track: self,
+        }
     }
 }
