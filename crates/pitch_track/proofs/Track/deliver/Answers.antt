@@ -68,6 +68,18 @@ module _ (k : TrackSettings) {s : Settings} {a : TrackSettings} {len hop : ℕ} 
   from-is : (n new : ℕ) → new ≡ frame_count len hop n → new * hop ≡ F (stored_settings k) n * hop_length (stored_settings k)
   from-is n new e = λ i. new-is n new e i * hop-is i
 
+-- what follows the new frames: where it starts, and how much it is
+module _ (tr : Track) (t d : List ℤ) (number : delivery_no tr t d ≡ 0) {s : Settings} {a : TrackSettings} {len hop new : ℕ} (sizes : (len ≡ frame_length s) × (hop ≡ hop_length s)) (stores : s ≡ stored_settings a)
+    (same : a ≡ tr.settings) (counted : new ≡ frame_count len hop (tr.count + length d)) where
+  start : new * hop ≡ F (stored_settings tr.settings) (tr.count + length d) * hop_length (stored_settings tr.settings)
+  start = from-is tr.settings sizes stores same (tr.count + length d) new counted
+
+  starts_within : new * hop ≤ tr.count + length d
+  starts_within = from_fits tr t d number (new * hop) start
+
+  rest_fits : tr.count + length d - new * hop ≤ longest_frame
+  rest_fits = left_fits tr t d number (new * hop) start
+
 pub overflow_add-n : goal.overflow_add-n
 overflow_add-n c =
     let a = c.args in
@@ -78,9 +90,8 @@ pub overflow_mul-from : goal.overflow_mul-from
 overflow_mul-from c =
     let a = c.args in
     let number = zero a.self a.table.now a.samples.now (search rules) c.track_limit.ensures c.in-Ok.ensures.number in
-    let tr = a.self in
-    let from = from-is tr.settings c.from-framing.ensures c.stored.ensures c.in-Ok.ensures.settings (tr.count + length a.samples.now) c.frames_in-new.result c.frames_in-new.ensures in
-    omega (arith, from_fits tr a.table.now a.samples.now number _ from, (pass tr a.table.now a.samples.now number).few, (sized tr a.table.now a.samples.now number).small, c.well_formed)
+    let within = starts_within a.self a.table.now a.samples.now number c.from-framing.ensures c.stored.ensures c.in-Ok.ensures.settings c.frames_in-new.ensures in
+    omega (arith, within, (pass a.self a.table.now a.samples.now number).few, (sized a.self a.table.now a.samples.now number).small, c.well_formed)
 
 pub slice_bounds-held-end : goal.slice_bounds-held-end
 slice_bounds-held-end c =
@@ -113,18 +124,15 @@ pub overflow_sub-left : goal.overflow_sub-left
 overflow_sub-left c =
     let a = c.args in
     let number = zero a.self a.table.now a.samples.now (search rules) c.track_limit.ensures c.in-Ok.ensures.number in
-    let tr = a.self in
-    let from = from-is tr.settings c.from-framing.ensures c.stored.ensures c.in-Ok.ensures.settings (tr.count + length a.samples.now) c.frames_in-new.result c.frames_in-new.ensures in
-    from_fits tr a.table.now a.samples.now number _ from
+    starts_within a.self a.table.now a.samples.now number c.from-framing.ensures c.stored.ensures c.in-Ok.ensures.settings c.frames_in-new.ensures
 
 pub window-rest-requires : goal.window-rest-requires
 window-rest-requires c =
     let a = c.args in
     let number = zero a.self a.table.now a.samples.now (search rules) c.track_limit.ensures c.in-Ok.ensures.number in
-    let tr = a.self in
     let full : length a.self.held ≡ longest_frame = search rules in
-    let from = from-is tr.settings c.from-framing.ensures c.stored.ensures c.in-Ok.ensures.settings (tr.count + length a.samples.now) c.frames_in-new.result c.frames_in-new.ensures in
-    (omega (arith, from_fits tr a.table.now a.samples.now number _ from, length_held tr a.table.now a.samples.now number full), left_fits tr a.table.now a.samples.now number _ from)
+    let within = starts_within a.self a.table.now a.samples.now number c.from-framing.ensures c.stored.ensures c.in-Ok.ensures.settings c.frames_in-new.ensures in
+    (omega (arith, within, length_held a.self a.table.now a.samples.now number full), rest_fits a.self a.table.now a.samples.now number c.from-framing.ensures c.stored.ensures c.in-Ok.ensures.settings c.frames_in-new.ensures)
 
 pub overflow_add-self : goal.overflow_add-self
 overflow_add-self c =
@@ -163,12 +171,12 @@ returns c =
     let hop = c.from-framing.result.hop in
     let n = tr.count + length d in
     let new = new-is tr.settings c.from-framing.ensures c.stored.ensures same n k c.frames_in-new.ensures in
-    let from = from-is tr.settings c.from-framing.ensures c.stored.ensures same n k c.frames_in-new.ensures in
+    let within = starts_within tr t d number c.from-framing.ensures c.stored.ensures same c.frames_in-new.ensures in
     let h = hop-is tr.settings c.from-framing.ensures c.stored.ensures same in
     let x = take tr.count tr.held ++ d in
     let left = tr.count + length d - k * hop in
     let size : length (take tr.count tr.held ++ d) ≡ k * hop + (tr.count + length d - k * hop) =
-    omega (arith, length-append (take tr.count tr.held) d, length_held tr t d number full, from_fits tr t d number _ from) in
+    omega (arith, length-append (take tr.count tr.held) d, length_held tr t d number full, within) in
     let prev = c.put_rows-prev.result in
     let r = made tr t d k (tr.frames + k) c.window-rest.result left prev c.put_rows-prev.new.table
     refl
